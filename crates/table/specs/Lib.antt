@@ -1,0 +1,3 @@
+pub mod Update
+pub mod Layout
+pub mod Held
