@@ -1,0 +1,58 @@
+-- A head of the code as the stage protocol sees it, and what a step of it answers.
+use mathlib.Core.Path.{_≡_}
+use mathlib.Core.Bool.{Bool}
+use Prim.Native.Nat.{ℕ}
+use Rattle.std.specs.declared.option.Option.{Option}
+use Rattle.std.specs.declared.option.Option.the-variants.{Some, None}
+use Rattle.std.specs.declared.result.Result.{Result}
+use Rattle.std.specs.declared.result.Result.the-variants.{Ok, Err}
+use Rattle.table.specs.declared.row.Column.{Column}
+use Rattle.stage.specs.Stages.{rank}
+use Rattle.change.specs.declared.kinds.Way.{Way}
+use Rattle.change.specs.declared.kinds.Way.the-variants.{Up, Down}
+use Rattle.change.specs.declared.kinds.Index.{Index}
+use Rattle.change.specs.declared.kinds.Refusal.{Refusal}
+use Rattle.change.specs.declared.kinds.Refusal.the-variants.{OutOfRange, NoLease, NotPublic, NotUnique, OtherStage, NotFilled, NotCleared, OtherWay, LastStage, NoIndex, IndexThere, NotNow, AllDone, Quiet, NoRow}
+use Rattle.change.specs.Protocol.{Head, gone, there, up, down}
+use Rattle.change.specs.Index.{About}
+
+-- what an index is about
+abbrev pub aboutOf : Column → Bool → About
+aboutOf c u = record { column = c .number; unique = u }
+
+-- a head by its way
+abbrev pub headBy : About → (done : ℕ) → Way → Head About
+headBy a d (Up s) = there a up (rank s) d
+headBy a d (Down s) = there a down (rank s) d
+
+-- the head of an index that is there
+abbrev pub headOf : Index → Head About
+headOf x = headBy (aboutOf (x .column) (x .unique)) (x .done) (x .way)
+
+-- the head of an index that may be gone
+abbrev pub slotOf : Option Index → Head About
+slotOf None = gone
+slotOf (Some x) = headOf x
+
+-- the numbers of refusals
+abbrev pub numberOf : Refusal → ℕ
+numberOf OutOfRange = 1
+numberOf NoLease = 2
+numberOf NotPublic = 3
+numberOf NotUnique = 4
+numberOf OtherStage = 5
+numberOf NotFilled = 5
+numberOf NotCleared = 5
+numberOf OtherWay = 6
+numberOf LastStage = 6
+numberOf NoIndex = 6
+numberOf IndexThere = 6
+numberOf NotNow = 7
+numberOf AllDone = 7
+numberOf Quiet = 8
+numberOf NoRow = 9
+
+-- a step hands back the head after it where nothing is against it, and else the refusal of that number
+abbrev pub Stepped : {X : Type 0} → (X → Head About) → Result X Refusal → (why : Option ℕ) → (after : Head About) → Type 0
+Stepped view (Ok x) why h = (why ≡ None) × (view x ≡ h)
+Stepped view (Err e) why h = why ≡ Some (numberOf e)
