@@ -5,7 +5,6 @@ use mathlib.Core.Bool.{Bool, true, _&&_}
 use mathlib.Core.List.{List, [], _∷_}
 use Prim.Native.Nat.{ℕ, zero, suc, _+_, _-_, _<_}
 use native.Mathlib.Omega.{arith}
-use lib.Dec.{T}
 use borrow.Author.Tests.{clash}
 use Rattle.std.specs.declared.option.Option.{Option}
 use Rattle.std.specs.declared.option.Option.the-variants.{Some, None}
@@ -19,10 +18,10 @@ use Rattle.change.proofs.Steps.{Fine, fill-either, step-fine, steps-fine}
 use Rattle.change.proofs.Kept.{gone-empty, no-orphan, one-number}
 
 -- a unique index that refuses the next key's value has two rows with it
-taken-twice : (keys d : ℕ) (rows es : ℕ → Option ℕ) (u : Bool) → NoOrphan rows es → d < keys → u && (true && valueTaken keys es d (rows d)) ≡ true → T u × Twice keys rows
+taken-twice : (keys d : ℕ) (rows es : ℕ → Option ℕ) (u : Bool) → NoOrphan rows es → d < keys → u && (true && valueTaken keys es d (rows d)) ≡ true → (u ≡ true) × Twice keys rows
 taken-twice keys d rows es u own l e = go (rows d) refl (grind arith)
   where
-    go : (r : Option ℕ) → rows d ≡ r → T u × (valueTaken keys es d r ≡ true) → T u × Twice keys rows
+    go : (r : Option ℕ) → rows d ≡ r → (u ≡ true) × (valueTaken keys es d r ≡ true) → (u ≡ true) × Twice keys rows
     go None c (on, t) = absurd (clash t)
     go (Some v) c (on, t) = let (j, b, other, has) = other-row keys d v rows es own t in (on, (j, d, v, b, l, other, has, c))
 
@@ -75,7 +74,7 @@ module _ (keys : ℕ) where
     down-any (suc (suc (suc (suc s)))) es d g = absurd (omega (arith, g .byHead .0))
 
     abbrev Ended : State → Type 0
-    Ended n = Done a n ⊎ (T (a .unique) × Twice keys rows × Undone n)
+    Ended n = Done a n ⊎ ((a .unique ≡ true) × Twice keys rows × Undone n)
 
     up-3 : (es : ℕ → Option ℕ) (d : ℕ) → CanCome keys (at up 3 d es) Ended
     up-3 es d = ([], refl, refl, refl, inl (d, refl))
@@ -111,17 +110,17 @@ module _ (keys : ℕ) where
     pub can-turn : w .head ≡ there a up s d → Fine keys w → CanCome keys w Undone
     can-turn e = known Undone up e (λ g. next Undone turns _ refl refl g (down-any a (w .rows) s (w .entries) 0))
 
-    pub can-end : w .head ≡ there a up s d → Fine keys w → CanCome keys w (Done a) ⊎ (T (a .unique) × Twice keys (w .rows) × CanCome keys w Undone)
+    pub can-end : w .head ≡ there a up s d → Fine keys w → CanCome keys w (Done a) ⊎ ((a .unique ≡ true) × Twice keys (w .rows) × CanCome keys w Undone)
     can-end e g = apart (known (Ended a (w .rows)) up e (up-any a (w .rows) s (w .entries) d) g)
       where
-        apart : CanCome keys w (Ended a (w .rows)) → CanCome keys w (Done a) ⊎ (T (a .unique) × Twice keys (w .rows) × CanCome keys w Undone)
+        apart : CanCome keys w (Ended a (w .rows)) → CanCome keys w (Done a) ⊎ ((a .unique ≡ true) × Twice keys (w .rows) × CanCome keys w Undone)
         apart (ss, serve, may, same, inl p) = inl (ss, serve, may, same, p)
         apart (ss, serve, may, same, inr (u, t, p)) = inr (u, t, (ss, serve, may, same, p))
 
-  pub not-both : (w : State) (a : About) → Fine keys w → CanCome keys w (Done a) → T (a .unique) → Twice keys (w .rows) → ⊥
+  pub not-both : (w : State) (a : About) → Fine keys w → CanCome keys w (Done a) → a .unique ≡ true → Twice keys (w .rows) → ⊥
   not-both w a g (ss, serve, may, same, (d, e)) u (k, j, v, kb, jb, other, p, q) =
       let n = afterAll keys ss w in
       let f : Fine keys n = steps-fine keys ss w may g in
-      let on : T (uniqueOf (n .head)) = rw e u in
+      let on : uniqueOf (n .head) ≡ true = rw e u in
       let three : stageOf (n .head) ≡ 3 = rw e in
       other (one-number keys (n .head) on (inr three) f k j v (rw same p) (rw same q))

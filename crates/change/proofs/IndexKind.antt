@@ -3,7 +3,6 @@ use mathlib.Core.Path.{_≡_, refl}
 use mathlib.Core.Bool.{Bool, true, false, cond}
 use Prim.Native.Nat.{ℕ, zero, suc, _+_, _<_, _≤_}
 use native.Mathlib.Omega.{arith}
-use lib.Dec.{T}
 use Rattle.std.specs.declared.option.Option.{Option}
 use Rattle.std.specs.declared.option.Option.the-variants.{Some, None}
 use Rattle.keyset.specs.Sets.{anyBelow}
@@ -35,7 +34,7 @@ other-row keys k v rows es own e =
 
 -- a value that is not refused is no other key's
 free : (keys : ℕ) (h : Head About) (s k : ℕ) (r : Option ℕ) (es : ℕ → Option ℕ) → ((j : ℕ) → keys ≤ j → es j ≡ None) → refuses keys h s k r es ≡ false →
-    T (uniqueOf h) → 2 ≤ s → (j v : ℕ) → r ≡ Some v → es j ≡ Some v → j ≡ k
+    uniqueOf h ≡ true → 2 ≤ s → (j v : ℕ) → r ≡ Some v → es j ≡ Some v → j ≡ k
 free keys h s k r es beyond ok u high j v e i =
     let b : j < keys = let o = beyond j in grind arith in
     let n : byOther es v k j ≡ false = none-below (byOther es v k) keys (grind arith) j b in

@@ -1,10 +1,9 @@
 -- What a sound state promises whoever uses its index.
 use mathlib.Core.Path.{_≡_, refl}
 use mathlib.Core.Logic.{_⊎_}
-use mathlib.Core.Bool.{Bool}
+use mathlib.Core.Bool.{Bool, true}
 use Prim.Native.Nat.{ℕ, zero, suc, _<_}
 use native.Mathlib.Omega.{arith}
-use lib.Dec.{T}
 use Rattle.std.specs.declared.option.Option.the-variants.{None}
 use Rattle.keyset.specs.Sets.{keysBelow}
 use Rattle.table.specs.Update.{keysFor}
@@ -38,8 +37,8 @@ module _ (keys : ℕ) {hs : ℕ → Type 0} {x : Part} where
   pub looks-right : (h : Head About) → hs 3 ⊎ (stageOf h ≡ 3) → Sound (kind keys) h hs x → (v : ℕ) → keysFor keys (x .entries) v ≡ keysFor keys (x .rows) v
   looks-right h three g v = same-keys _ _ (λ k. let e = full h three g k in cc) keys
 
-  pub one-number : (h : Head About) → T (uniqueOf h) → hs 3 ⊎ (stageOf h ≡ 3) → Sound (kind keys) h hs x → NoneTwice (x .rows)
-  one-number gone u three g k j v p q = absurd u
+  pub one-number : (h : Head About) → uniqueOf h ≡ true → hs 3 ⊎ (stageOf h ≡ 3) → Sound (kind keys) h hs x → NoneTwice (x .rows)
+  one-number gone u three g k j v p q = absurd (grind arith)
   one-number (there a w s d) u three g k j v p q =
       let ek = full (there a w s d) three g k in let ej = full (there a w s d) three g j in
       g .byHead .2 .1 u k j v (cc) (cc)

@@ -1,8 +1,8 @@
 pub mod Protocol
 pub mod IndexKind
 pub mod Kept
-mod Steps
-mod Ends
-mod Promises
-mod Witness
-mod Batches
+pub mod Steps
+pub mod Ends
+pub mod Promises
+pub mod Witness
+pub mod Batches

@@ -15,6 +15,7 @@ use Rattle.change.specs.declared.kinds.Refusal.{Refusal}
 use Rattle.change.specs.declared.kinds.Refusal.the-variants.{OutOfRange, NoLease, NotPublic, NotUnique, OtherStage, NotFilled, NotCleared, OtherWay, LastStage, NoIndex, IndexThere, NotNow, AllDone, Quiet, NoRow}
 use Rattle.change.specs.Protocol.{Head, gone, there, up, down}
 use Rattle.change.specs.Index.{About}
+use Rattle.change.specs.Batches.{Work}
 
 -- what an index is about
 abbrev pub aboutOf : Column → Bool → About
@@ -56,3 +57,12 @@ numberOf NoRow = 9
 abbrev pub Stepped : {X : Type 0} → (X → Head About) → Result X Refusal → (why : Option ℕ) → (after : Head About) → Type 0
 Stepped view (Ok x) why h = (why ≡ None) × (view x ≡ h)
 Stepped view (Err e) why h = why ≡ Some (numberOf e)
+
+-- a head and its entries, to be worked on
+abbrev pub workOn : Index → (ℕ → Option ℕ) → Work
+workOn x es = record { head = headOf x; entries = es }
+
+-- backfill or cleanup hands back the head after the work, with the entries after it; where something is against it, the refusal of that number, and the entries are as they were
+abbrev pub Worked : Result Index Refusal → (why : Option ℕ) → (before after : ℕ → Option ℕ) → Work → Type 0
+Worked (Ok x) why es fs w = (why ≡ None) × (workOn x fs ≡ w)
+Worked (Err e) why es fs w = (why ≡ Some (numberOf e)) × (fs ≡ es)

@@ -1,8 +1,7 @@
 -- An index as a kind of change: the rows that it is over, its entries, and what is done to them.
 use mathlib.Core.Path.{_≡_}
-use mathlib.Core.Bool.{Bool, false, cond, _&&_}
+use mathlib.Core.Bool.{Bool, true, false, cond, _&&_}
 use Prim.Native.Nat.{ℕ, _<_, _≤_}
-use lib.Dec.{T}
 use Rattle.std.specs.declared.option.Option.{Option}
 use Rattle.std.specs.declared.option.Option.the-variants.{Some, None}
 use Rattle.table.specs.Update.{update}
@@ -66,7 +65,7 @@ Always keys x = (k : ℕ) → keys ≤ k → (x .rows k ≡ None) × (x .entries
 
 -- no entry without its row, and in a unique index no two for one value
 abbrev pub Base : About → Part → Type 0
-Base a x = NoOrphan (x .rows) (x .entries) × (T (a .unique) → NoneTwice (x .entries))
+Base a x = NoOrphan (x .rows) (x .entries) × (a .unique ≡ true → NoneTwice (x .entries))
 
 -- no key below the bound has an entry
 abbrev pub NoneTo : ℕ → Part → Type 0

@@ -4,7 +4,6 @@ use mathlib.Core.Logic.{_⊎_}
 use mathlib.Core.Bool.{Bool, true, false, _&&_}
 use mathlib.Core.List.{List, [], _∷_}
 use Prim.Native.Nat.{ℕ, _+_, _<_, _≤_}
-use lib.Dec.{T}
 use Rattle.std.specs.declared.option.Option.{Option}
 use Rattle.std.specs.declared.option.Option.the-variants.{Some, None}
 use Rattle.table.specs.Update.{keysFor}
@@ -24,7 +23,7 @@ serves goesDown = true
 serves fills = true
 serves clears = true
 
--- do all these steps
+-- do all these steps serve the change
 abbrev pub allServe : List Step → Bool
 allServe [] = true
 allServe (s ∷ ss) = serves s && allServe ss
@@ -58,15 +57,15 @@ pub record Keeps (keys : ℕ) (w : State) : Type 0 where
   -- whoever holds it as public finds by the index what a look through all rows finds
   pub looksRight : HeldPublic w → (v : ℕ) → keysFor keys (w .entries) v ≡ keysFor keys (w .rows) v
   -- no two rows have one value in a unique index that is public, or held as public
-  pub oneNumber : T (uniqueOf (w .head)) → HeldPublic w ⊎ (stageOf (w .head) ≡ 3) → NoneTwice (w .rows)
+  pub oneNumber : uniqueOf (w .head) ≡ true → HeldPublic w ⊎ (stageOf (w .head) ≡ 3) → NoneTwice (w .rows)
   -- a row is refused only where another key's row has its value
   pub refusedRightly : (s k v : ℕ) → refuses keys (w .head) s k (Some v) (w .entries) ≡ true → (j : ℕ) × (j < keys) × (j ≡ k → ⊥) × (w .rows j ≡ Some v)
   -- a change that is gone leaves no entry
   pub leavesNothing : w .head ≡ gone → (k : ℕ) → w .entries k ≡ None
   -- a change that goes up can be brought to public, or its index is unique, two rows have one value, and it can be undone
-  pub canEnd : (a : About) (s d : ℕ) → w .head ≡ there a up s d → CanCome keys w (Done a) ⊎ (T (a .unique) × Twice keys (w .rows) × CanCome keys w Undone)
+  pub canEnd : (a : About) (s d : ℕ) → w .head ≡ there a up s d → CanCome keys w (Done a) ⊎ ((a .unique ≡ true) × Twice keys (w .rows) × CanCome keys w Undone)
   -- and never both
-  pub notBoth : (a : About) → CanCome keys w (Done a) → T (a .unique) → Twice keys (w .rows) → ⊥
+  pub notBoth : (a : About) → CanCome keys w (Done a) → a .unique ≡ true → Twice keys (w .rows) → ⊥
   -- a change that goes up can at any time be turned and undone
   pub canTurn : (a : About) (s d : ℕ) → w .head ≡ there a up s d → CanCome keys w Undone
   -- a change that goes down can be undone

@@ -11,9 +11,12 @@ use keyset::KEYS;
 use stage::Stage;
 use table::Column;
 
+mod batch;
 mod kinds;
 mod theorems;
 
+pub use batch::clear;
+pub use batch::fill;
 pub use kinds::Index;
 pub use kinds::Refusal;
 pub use kinds::Way;
