@@ -100,30 +100,31 @@ pub fn fill(
 ) -> Result<Index, Refusal>
     ensures { λ r. ⌜ Worked r (whyNotFill 4096 alone (headOf head)) (entryOf (now (entries .entry))) (entryOf (now (entries .exit))) (filledN 4096 (λ k. valueIn (head .column .number) (rowOf (now (rows .entry)) k)) count (workOn head (entryOf (now (entries .entry))))) ⌝ }
 {
-    if !alone {
-        return Err(Refusal::OtherStage);
+    match (head.way, alone) {
+        (Way::Up(Stage::WriteOnly), true) if head.done < KEYS => Ok(backfill(
+            head,
+            rows,
+            entries,
+            count,
+        )),
+        (Way::Up(Stage::WriteOnly), true) => Err(Refusal::AllDone),
+        (_, true) => Err(Refusal::NotNow),
+        (_, false) => Err(Refusal::OtherStage),
     }
-    let Way::Up(Stage::WriteOnly) = head.way else {
-        return Err(Refusal::NotNow);
-    };
-    if head.done >= KEYS {
-        return Err(Refusal::AllDone);
-    }
-    Ok(backfill(head, rows, entries, count))
 }
 
 /// Cleanup over the next `count` keys.
 pub fn clear(head: Index, alone: bool, entries: &mut Entries, count: u16) -> Result<Index, Refusal>
     ensures { λ r. ⌜ Worked r (whyNotClear 4096 alone (headOf head)) (entryOf (now (entries .entry))) (entryOf (now (entries .exit))) (clearedN 4096 count (workOn head (entryOf (now (entries .entry))))) ⌝ }
 {
-    if !alone {
-        return Err(Refusal::OtherStage);
+    match (head.way, alone) {
+        (Way::Down(Stage::DeleteOnly), true) if head.done < KEYS => Ok(cleanup(
+            head,
+            entries,
+            count,
+        )),
+        (Way::Down(Stage::DeleteOnly), true) => Err(Refusal::AllDone),
+        (_, true) => Err(Refusal::NotNow),
+        (_, false) => Err(Refusal::OtherStage),
     }
-    let Way::Down(Stage::DeleteOnly) = head.way else {
-        return Err(Refusal::NotNow);
-    };
-    if head.done >= KEYS {
-        return Err(Refusal::AllDone);
-    }
-    Ok(cleanup(head, entries, count))
 }

@@ -81,21 +81,16 @@ impl Index {
 pub fn up(head: Index, alone: bool) -> Result<Index, Refusal>
     ensures { λ r. ⌜ Stepped headOf r (whyNotUp 4096 alone (headOf head)) (raised (headOf head)) ⌝ }
 {
-    if !alone {
-        return Err(Refusal::OtherStage);
-    }
-    match head.way {
-        Way::Up(Stage::Absent) => Ok(head.at(Way::Up(Stage::DeleteOnly))),
-        Way::Up(Stage::DeleteOnly) => Ok(head.at(Way::Up(Stage::WriteOnly))),
-        Way::Up(Stage::WriteOnly) => {
-            if head.done == KEYS {
-                Ok(head.at(Way::Up(Stage::Public)))
-            } else {
-                Err(Refusal::NotFilled)
-            }
-        }
-        Way::Up(Stage::Public) => Err(Refusal::LastStage),
-        Way::Down(_) => Err(Refusal::OtherWay),
+    match (head.way, alone) {
+        (Way::Up(Stage::Absent), true) => Ok(head.at(Way::Up(Stage::DeleteOnly))),
+        (Way::Up(Stage::DeleteOnly), true) => Ok(head.at(Way::Up(Stage::WriteOnly))),
+        (Way::Up(Stage::WriteOnly), true) if head.done == KEYS => Ok(head.at(Way::Up(
+            Stage::Public,
+        ))),
+        (Way::Up(Stage::WriteOnly), true) => Err(Refusal::NotFilled),
+        (Way::Up(Stage::Public), true) => Err(Refusal::LastStage),
+        (Way::Down(_), true) => Err(Refusal::OtherWay),
+        (_, false) => Err(Refusal::OtherStage),
     }
 }
 
@@ -103,12 +98,10 @@ pub fn up(head: Index, alone: bool) -> Result<Index, Refusal>
 pub fn turn(head: Index, alone: bool) -> Result<Index, Refusal>
     ensures { λ r. ⌜ Stepped headOf r (whyNotTurn alone (headOf head)) (turnedDown (headOf head)) ⌝ }
 {
-    if !alone {
-        return Err(Refusal::OtherStage);
-    }
-    match head.way {
-        Way::Up(stage) => Ok(head.at(Way::Down(stage))),
-        Way::Down(_) => Err(Refusal::OtherWay),
+    match (head.way, alone) {
+        (Way::Up(stage), true) => Ok(head.at(Way::Down(stage))),
+        (Way::Down(_), true) => Err(Refusal::OtherWay),
+        (_, false) => Err(Refusal::OtherStage),
     }
 }
 
@@ -116,20 +109,18 @@ pub fn turn(head: Index, alone: bool) -> Result<Index, Refusal>
 pub fn down(head: Index, alone: bool) -> Result<Option<Index>, Refusal>
     ensures { λ r. ⌜ Stepped slotOf r (whyNotDown 4096 alone (headOf head)) (lowered (headOf head)) ⌝ }
 {
-    if !alone {
-        return Err(Refusal::OtherStage);
-    }
-    match head.way {
-        Way::Down(Stage::Public) => Ok(Some(head.at(Way::Down(Stage::WriteOnly)))),
-        Way::Down(Stage::WriteOnly) => Ok(Some(head.at(Way::Down(Stage::DeleteOnly)))),
-        Way::Down(Stage::DeleteOnly) => {
-            if head.done == KEYS {
-                Ok(Some(head.at(Way::Down(Stage::Absent))))
-            } else {
-                Err(Refusal::NotCleared)
-            }
-        }
-        Way::Down(Stage::Absent) => Ok(None),
-        Way::Up(_) => Err(Refusal::OtherWay),
+    match (head.way, alone) {
+        (Way::Down(Stage::Public), true) => Ok(Some(head.at(Way::Down(Stage::WriteOnly)))),
+        (Way::Down(Stage::WriteOnly), true) => Ok(Some(head.at(Way::Down(Stage::DeleteOnly)))),
+        (Way::Down(Stage::DeleteOnly), true) if head.done == KEYS => Ok(Some(head.at(Way::Down(
+            Stage::Absent,
+        )))),
+        (Way::Down(Stage::DeleteOnly), true) => Err(Refusal::NotCleared),
+        (Way::Down(Stage::Absent), true) => Ok(None),
+        (Way::Up(_), true) => Err(Refusal::OtherWay),
+        (_, false) => Err(Refusal::OtherStage),
     }
 }
+
+#[cfg(test)]
+mod tests;

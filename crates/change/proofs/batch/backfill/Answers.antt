@@ -31,6 +31,9 @@ must : (a : About) (d n k : ℕ) (w : Way) (rows es : ℕ → Option ℕ) (b : B
 must a d n k w rows es b e q f =
     sym (f ∙ ap (λ x. refuses 4096 (headBy a d x) 2 n (rows n) es) e ∙ ap (λ x. refuses 4096 (there a up 2 d) 2 x (rows x) es) q)
 
+filled-at : (rows es fs : ℕ → Option ℕ) (n k : ℕ) → n ≡ k → ((j : ℕ) → fs j ≡ backfilled n rows es j) → (j : ℕ) → fs j ≡ backfilled k rows es j
+filled-at rows es fs n k e f j = f j ∙ ap (λ m. backfilled m rows es j) e
+
 pub loop-number-holds : need.loop-number-holds
 loop-number-holds c =
     first may (filled 4096 (λ k. valueIn (c .args .head .column .number) (rowOf (c .args .rows .now) k))) (workOn (c .args .head) (entryOf (c .args .entries .now))) (c .args .head .done)
@@ -48,7 +51,7 @@ loop-number-again c =
     let m : may (at a (h .way) k es) ≡ true = rw (c .pre .0) (lt-ltb k 4096 inside) in
     let s : filled 4096 rows (at a (h .way) k es) ≡ at a (h .way) (k + 1) fs =
     let t = must a (h .done) (c .in-Some .key .number) k (h .way) rows es false (c .pre .0) key (c .if-fill-key .ensures tt .taken) in
-    rw (c .pre .0) (fill-next 4096 rows a k es fs t (λ j. c .if-fill-key .ensures tt .entries j ∙ ap (λ n. backfilled n rows es j) key)) in
+    rw (c .pre .0) (fill-next 4096 rows a k es fs t (filled-at rows es fs (c .in-Some .key .number) k key (c .if-fill-key .ensures tt .entries))) in
     next may (filled 4096 rows) (workOn h (entryOf (c .args .entries .now))) (h .done) k (at a (h .way) k es) (at a (h .way) (k + 1) fs) (c .loop-number .kept .number) m s (c .loop-number .inv)
 
 pub returns-then-fill-key : need.returns-then-fill-key
@@ -67,14 +70,6 @@ returns-then-fill-key c =
     rw (c .pre .0) (fill-turns 4096 rows a k es fs t (c .if-fill-key .ensures tt .entries)) in
     sym (leaves may (filled 4096 rows) (workOn h (entryOf (c .args .entries .now))) (h .done) k (c .args .count) (at a (h .way) k es) z (c .loop-number .kept .number) (omega (arith, c .loop-number-test .taken, c .end-of-end .ensures)) m s refl (c .loop-number .inv))
 
--- the loop is left at its end: a key below 4096 is never refused
-left : (c : need.After-result-2·1) → c .loop-number .number ≡ c .end-of-end .result
-left c =
-    elim (c .loop-number-test .came) [
-      | else-loop-number-test w ↦ omega (arith, w .loop-number-test .left, c .end-of-end .ensures, c .loop-number .kept .number-end)
-      | then-loop-number-test·in-rest w ↦ absurd (omega (arith, w .in-rest .ensures tt, w .loop-number-test .taken, c .end-of-end .ensures))
-    ]
-
 pub returns : need.returns
 returns c =
     let h = c .args .head in
@@ -83,6 +78,10 @@ returns c =
     let es = entryOf (c .loop-number .entries) in
     let rows : ℕ → Option ℕ = λ k. valueIn (h .column .number) (rowOf (c .args .rows .now) k) in
     let end = c .end-of-end .result in
-    let e : k ≡ end = left c in
+    let e : k ≡ end =
+    elim (c .loop-number-test .came) [
+      | else-loop-number-test w ↦ omega (arith, w .loop-number-test .left, c .end-of-end .ensures, c .loop-number .kept .number-end)
+      | then-loop-number-test·in-rest w ↦ absurd (omega (arith, w .in-rest .ensures tt, w .loop-number-test .taken, c .end-of-end .ensures))
+    ] in
     let f : k ≡ 4096 → may (at a (h .way) k es) ≡ false = λ q. rw (c .pre .0) (le-ltb k 4096 (omega arith)) in
     ap (λ n. at a (h .way) n es) (sym e) ∙ sym (over may (filled 4096 rows) (workOn h (entryOf (c .args .entries .now))) (h .done) 4096 (c .args .count) k (at a (h .way) k es) (omega arith) (e ∙ c .end-of-end .ensures) f (c .loop-number .inv))

@@ -39,14 +39,6 @@ loop-number-again c =
     rw (c .pre .0) (clear-next a k es fs (λ j. c .take .ensures j ∙ ap (λ n. cleanedUp n es j) (c .in-Some .ensures tt))) in
     next may cleared (workOn h (entryOf (c .args .entries .now))) (h .done) k (at a (h .way) k es) (at a (h .way) (k + 1) fs) (c .loop-number .kept .number) m s (c .loop-number .inv)
 
--- the loop is left at its end: a key below 4096 is never refused
-left : (c : need.After-result·1) → c .loop-number .number ≡ c .end-of-end .result
-left c =
-    elim (c .loop-number-test .came) [
-      | else-loop-number-test w ↦ omega (arith, w .loop-number-test .left, c .end-of-end .ensures, c .loop-number .kept .number-end)
-      | then-loop-number-test·in-rest w ↦ absurd (omega (arith, w .in-rest .ensures tt, w .loop-number-test .taken, c .end-of-end .ensures))
-    ]
-
 pub returns : need.returns
 returns c =
     let h = c .args .head in
@@ -54,6 +46,10 @@ returns c =
     let k = c .loop-number .number in
     let es = entryOf (c .loop-number .entries) in
     let end = c .end-of-end .result in
-    let e : k ≡ end = left c in
+    let e : k ≡ end =
+    elim (c .loop-number-test .came) [
+      | else-loop-number-test w ↦ omega (arith, w .loop-number-test .left, c .end-of-end .ensures, c .loop-number .kept .number-end)
+      | then-loop-number-test·in-rest w ↦ absurd (omega (arith, w .in-rest .ensures tt, w .loop-number-test .taken, c .end-of-end .ensures))
+    ] in
     let f : k ≡ 4096 → may (at a (h .way) k es) ≡ false = λ q. rw (c .pre .0) (le-ltb k 4096 (omega arith)) in
     ap (λ n. at a (h .way) n es) (sym e) ∙ sym (over may cleared (workOn h (entryOf (c .args .entries .now))) (h .done) 4096 (c .args .count) k (at a (h .way) k es) (omega arith) (e ∙ c .end-of-end .ensures) f (c .loop-number .inv))
