@@ -15,6 +15,9 @@ pub enum Stage {
     Public,
 }
 
+/// How many indexes there can be.
+pub const INDEXES: usize = 8;
+
 /// What is written to a key.
 #[derive(Clone, Copy)]
 pub enum Write {

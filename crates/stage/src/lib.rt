@@ -17,9 +17,12 @@ use table::Entries;
 use table::Row;
 
 mod kinds;
+mod slot;
 
+pub use kinds::INDEXES;
 pub use kinds::Stage;
 pub use kinds::Write;
+pub use slot::Slot;
 
 impl Stage {
     /// The stage of that number, from 0 to 3.
