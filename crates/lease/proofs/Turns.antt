@@ -2,26 +2,20 @@
 use mathlib.Core.Path.{_≡_, refl, sym, _∙_, ap}
 use mathlib.Core.Bool.{Bool, true, false, cond, not, _&&_, _||_, true≢false}
 use mathlib.Core.List.{List, [], _∷_, _++_, append-assoc, map}
-use Prim.Native.Nat.{ℕ, zero, suc, _+_, _<_, _≤_}
+use Prim.Native.Nat.{ℕ, _+_, _<_, _≤_}
 use lib.Dec.{eqb}
 use lib.ListN.{getD, drop, length}
 use Rattle.std.proofs.shelf.Lists.{drop-all, drop-more, at-drop-more, at-drop-all}
 use Rattle.stage.specs.declared.kinds.Stage.{Stage}
 use Rattle.stage.specs.declared.kinds.Stage.the-variants.{Absent}
-use Rattle.stage.specs.Stages.{rank}
+use Rattle.stage.specs.Stages.{rank, ranks}
 use Rattle.lease.specs.declared.kinds.Lease.{Lease}
 use Rattle.lease.specs.Leases as rules
 use Rattle.lease.specs.Leases.{sameList, holds, allAt, leftBeside, runs, isOf, stays, stageAt}
-use Rattle.lease.specs.Books.{ranks, leaseOf, bookOf}
+use Rattle.lease.specs.Books.{leaseOf, bookOf}
 
 abbrev pub any : Lease
 any = record { office = 0; stages = []; since = 0 }
-
--- the stage of an index, by number
-pub stage-at : (ss : List Stage) (i : ℕ) → stageAt (ranks ss) i ≡ rank (getD ss i Absent)
-stage-at [] i = refl
-stage-at (s ∷ ss) zero = refl
-stage-at (s ∷ ss) (suc i) = stage-at ss i
 
 pub same-left : (ss ts : List Stage) (n : ℕ) → n < length ss → n < length ts →
     sameList (ranks (drop n ss)) (ranks (drop n ts)) ≡ eqb (rank (getD ss n Absent)) (rank (getD ts n Absent)) && sameList (ranks (drop (n + 1) ss)) (ranks (drop (n + 1) ts))

@@ -1,5 +1,6 @@
 -- What is done to an index in which stage, when a row is put, changed or taken away.
 use mathlib.Core.Bool.{Bool, true, false, cond, _&&_}
+use mathlib.Core.List.{List, map}
 use Prim.Native.Nat.{ℕ}
 use lib.Dec.{leb}
 use Rattle.std.specs.declared.option.Option.{Option}
@@ -17,6 +18,10 @@ rank Absent = 0
 rank DeleteOnly = 1
 rank WriteOnly = 2
 rank Public = 3
+
+-- stages of several indexes, by number
+abbrev pub ranks : List Stage → List ℕ
+ranks ss = map rank ss
 
 -- the row that a key has once this is written
 abbrev pub written : Write → Option Row

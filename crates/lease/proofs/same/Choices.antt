@@ -1,7 +1,7 @@
 use mathlib.Core.Path.{_≡_}
 use lib.ListN.{drop}
+use Rattle.stage.specs.Stages.{ranks}
 use Rattle.lease.specs.Leases.{sameList}
-use Rattle.lease.specs.Books.{ranks}
 use Rattle.lease.proofs.same.Given as given
 
 abbrev pub Inv-loop-i : given.InvT-loop-i

@@ -1,7 +1,6 @@
 use mathlib.Core.Path.{_≡_}
 use native.Mathlib.Omega.{arith}
-use Rattle.stage.specs.Stages.{rank}
-use Rattle.lease.specs.Books.{ranks}
+use Rattle.stage.specs.Stages.{rank, ranks}
 use Rattle.lease.proofs.Turns.{holds-left, holds-none}
 use Rattle.lease.proofs.book.holds.Needs as need
 

@@ -1,8 +1,8 @@
 use mathlib.Core.Path.{_≡_}
 use lib.ListN.{drop}
-use Rattle.stage.specs.Stages.{rank}
+use Rattle.stage.specs.Stages.{rank, ranks}
 use Rattle.lease.specs.Leases.{holds}
-use Rattle.lease.specs.Books.{ranks, bookOf}
+use Rattle.lease.specs.Books.{bookOf}
 use Rattle.lease.proofs.book.holds.Given as given
 
 abbrev pub Inv-loop-lease : given.InvT-loop-lease

@@ -1,0 +1,81 @@
+-- Entries and heads of several indexes, once those of one are changed.
+use mathlib.Core.Path.{_≡_, refl, sym, _∙_, ap, ap₂, fun-ext}
+use mathlib.Core.Bool.{Bool, true, false, cond}
+use mathlib.Core.Logic.{⊎-elim}
+use mathlib.Core.List.{List, [], _∷_}
+use Prim.Native.Nat.{ℕ, zero, suc, _+_, _<_, _≤_}
+use native.Mathlib.Omega.{arith}
+use lib.Dec.{eqb}
+use lib.ListN.{length, getD, set, replicate}
+use Rattle.std.proofs.shelf.Tests.{cases-eq, eq-eqb, ne-eqb}
+use Rattle.std.specs.declared.option.Option.{Option}
+use Rattle.std.specs.declared.option.Option.the-variants.{Some, None}
+use Rattle.table.specs.declared.owners.Entries.{Entries}
+use Rattle.table.specs.declared.owners.Rows.{Rows}
+use Rattle.table.specs.Held.{entryOf, rowOf}
+use Rattle.table.specs.Update.{update}
+use Rattle.change.specs.Protocol.{gone}
+use Rattle.register.specs.Registers.{Register, bare}
+use Rattle.register.specs.Held.{entryIn, headIn}
+
+-- the entries of one index
+pub entry-at : (es : List Entries) (i : ℕ) (d : Entries) → i < length es → (j : ℕ) → entryIn es i j ≡ entryOf (getD es i d) j
+entry-at [] i d l j = absurd (omega arith)
+entry-at (x ∷ es) zero d l j = refl
+entry-at (x ∷ es) (suc i) d l j = entry-at es i d (omega arith) j
+
+pub entry-same : (es : List Entries) (i : ℕ) (e : Entries) → i < length es → (j : ℕ) → entryIn (set es i e) i j ≡ entryOf e j
+entry-same [] i e l j = absurd (omega arith)
+entry-same (x ∷ es) zero e l j = refl
+entry-same (x ∷ es) (suc i) e l j = entry-same es i e (omega arith) j
+
+pub entry-other : (es : List Entries) (i h : ℕ) (e : Entries) → (h ≡ i → ⊥) → (j : ℕ) → entryIn (set es i e) h j ≡ entryIn es h j
+entry-other [] i h e n j = refl
+entry-other (x ∷ es) zero zero e n j = absurd (n refl)
+entry-other (x ∷ es) zero (suc h) e n j = refl
+entry-other (x ∷ es) (suc i) zero e n j = refl
+entry-other (x ∷ es) (suc i) (suc h) e n j = entry-other es i h e (λ q. n (ap suc q)) j
+
+pub entry-past : (es : List Entries) (i : ℕ) → length es ≤ i → (j : ℕ) → entryIn es i j ≡ None
+entry-past [] i l j = refl
+entry-past (x ∷ es) zero l j = absurd (omega arith)
+entry-past (x ∷ es) (suc i) l j = entry-past es i (omega arith) j
+
+-- one index more is gone over
+pub next-index : (es os : List Entries) (n : ℕ) (y : Entries) (A : ℕ → ℕ → Option ℕ) → n < length es
+    → ((j : ℕ) → entryOf y j ≡ A n j)
+    → ((i j : ℕ) → i < n → entryIn es i j ≡ A i j) → ((i j : ℕ) → n ≤ i → entryIn es i j ≡ entryIn os i j)
+    → ((i j : ℕ) → i < n + 1 → entryIn (set es n y) i j ≡ A i j) × ((i j : ℕ) → n + 1 ≤ i → entryIn (set es n y) i j ≡ entryIn os i j)
+next-index es os n y A l new done left =
+    ((λ i j h. ⊎-elim
+        (λ e. ap (λ m. entryIn (set es n y) m j) e ∙ entry-same es n y l j ∙ new j ∙ ap (λ m. A m j) (sym e))
+        (λ ne. entry-other es n i y ne j ∙ done i j (omega arith))
+        (cases-eq i n)),
+    (λ i j h. entry-other es n i y (λ e. omega arith) j ∙ left i j (omega arith)))
+
+-- what is done to the entry of one key, where the entries before are known otherwise
+pub changed : (k : ℕ) (F : Option ℕ → Option ℕ) (f g : ℕ → Option ℕ) → ((j : ℕ) → f j ≡ g j) → (j : ℕ) → update k (F (f k)) f j ≡ update k (F (g k)) g j
+changed k F f g e j = ap₂ (λ a b. cond (eqb j k) (F a) b) (e k) (e j)
+
+-- nothing is done to the entry of a key
+pub unchanged : (k : ℕ) (f : ℕ → Option ℕ) (j : ℕ) → f j ≡ update k (f k) f j
+unchanged k f j = ⊎-elim (λ e. rw (eq-eqb j k e) (ap f e)) (λ ne. rw (ne-eqb j k ne)) (cases-eq j k)
+
+-- nothing is there
+abbrev pub NoEntries : List Entries → Type 0
+NoEntries [] = Unit {0}
+NoEntries (e ∷ es) = ((j : ℕ) → entryOf e j ≡ None) × NoEntries es
+
+no-entry : (es : List Entries) → NoEntries es → (i j : ℕ) → entryIn es i j ≡ None
+no-entry [] n i j = refl
+no-entry (e ∷ es) n zero j = n .0 j
+no-entry (e ∷ es) n (suc i) j = no-entry es (n .1) i j
+
+no-head : (n i : ℕ) → headIn (replicate n None) i ≡ gone
+no-head zero i = refl
+no-head (suc n) zero = refl
+no-head (suc n) (suc i) = no-head n i
+
+pub all-bare : (rows : Rows) (es : List Entries) → ((j : ℕ) → rowOf rows j ≡ None) → NoEntries es
+    → _≡_ {A = Register} (record { row = rowOf rows; entry = entryIn es; head = headIn (replicate 8 None); epoch = 0 }) bare
+all-bare rows es r e = λ i. record { row = fun-ext r i; entry = fun-ext (λ x. fun-ext (no-entry es e x)) i; head = fun-ext (no-head 8) i; epoch = 0 }

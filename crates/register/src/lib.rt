@@ -1,0 +1,9 @@
+//! The register: rows, the entries of eight indexes and their heads together, and records done to them.
+
+mod follow;
+mod kinds;
+mod owner;
+mod steps;
+
+pub use kinds::Record;
+pub use owner::Register;
