@@ -115,3 +115,8 @@ module _ (keys : ℕ) (rows : ℕ → Option ℕ) (a : About) (k : ℕ) (es fs :
       let with : Bool → Work = λ b. record { head = cond b (there a down 2 0) (there a up 2 (k + 1)); entries = λ j. cond b (es j) (backfilled k rows es j) } in
       let to : (ℕ → Option ℕ) → Work = λ g. record { head = there a down 2 0; entries = g } in
       ap with e ∙ ap to (fun-ext (λ j. sym (f j)))
+
+-- work of one key, where it may be done
+pub one-turn : {X : Type 0} (may : X → Bool) (step : X → X) (x y : X) → may x ≡ true → y ≡ repeated may step 1 x → y ≡ step x
+unfolding repeated
+one-turn may step x y m e = e ∙ rw m

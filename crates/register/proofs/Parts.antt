@@ -5,17 +5,20 @@ use mathlib.Core.Logic.{⊎-elim}
 use mathlib.Core.List.{List, [], _∷_}
 use Prim.Native.Nat.{ℕ, zero, suc, _+_, _<_, _≤_}
 use native.Mathlib.Omega.{arith}
-use lib.Dec.{eqb}
+use lib.Dec.{eqb, leb}
 use lib.ListN.{length, getD, set, replicate}
-use Rattle.std.proofs.shelf.Tests.{cases-eq, eq-eqb, ne-eqb}
+use Rattle.std.proofs.shelf.Tests.{cases-eq, eq-eqb, ne-eqb, and-from}
 use Rattle.std.specs.declared.option.Option.{Option}
 use Rattle.std.specs.declared.option.Option.the-variants.{Some, None}
 use Rattle.table.specs.declared.owners.Entries.{Entries}
 use Rattle.table.specs.declared.owners.Rows.{Rows}
 use Rattle.table.specs.Held.{entryOf, rowOf}
 use Rattle.table.specs.Update.{update}
+use Rattle.stage.specs.declared.kinds.Stage.{Stage}
+use Rattle.stage.specs.declared.kinds.Stage.the-variants.{Absent, DeleteOnly, WriteOnly, Public}
+use Rattle.stage.specs.Stages.{rank, ranks}
 use Rattle.change.specs.Protocol.{gone}
-use Rattle.register.specs.Registers.{Register, bare}
+use Rattle.register.specs.Registers.{Register, bare, allStages, areStages}
 use Rattle.register.specs.Held.{entryIn, headIn}
 
 -- the entries of one index
@@ -23,6 +26,10 @@ pub entry-at : (es : List Entries) (i : ℕ) (d : Entries) → i < length es →
 entry-at [] i d l j = absurd (omega arith)
 entry-at (x ∷ es) zero d l j = refl
 entry-at (x ∷ es) (suc i) d l j = entry-at es i d (omega arith) j
+
+-- as they are read
+pub entries-read : (es : List Entries) (n i : ℕ) (e : Entries) → n ≡ i → n < length es → e ≡ getD es n e → entryIn es i ≡ entryOf e
+entries-read es n i e q l r = ap (entryIn es) (sym q) ∙ fun-ext (entry-at es n e l) ∙ ap entryOf (sym r)
 
 pub entry-same : (es : List Entries) (i : ℕ) (e : Entries) → i < length es → (j : ℕ) → entryIn (set es i e) i j ≡ entryOf e j
 entry-same [] i e l j = absurd (omega arith)
@@ -79,3 +86,22 @@ no-head (suc n) (suc i) = no-head n i
 pub all-bare : (rows : Rows) (es : List Entries) → ((j : ℕ) → rowOf rows j ≡ None) → NoEntries es
     → _≡_ {A = Register} (record { row = rowOf rows; entry = entryIn es; head = headIn (replicate 8 None); epoch = 0 }) bare
 all-bare rows es r e = λ i. record { row = fun-ext r i; entry = fun-ext (λ x. fun-ext (no-entry es e x)) i; head = fun-ext (no-head 8) i; epoch = 0 }
+
+-- stages of the code's own are stages, one for each index
+low : (s : Stage) → leb (rank s) 3 ≡ true
+low Absent = refl
+low DeleteOnly = refl
+low WriteOnly = refl
+low Public = refl
+
+all-low : (ss : List Stage) → allStages (ranks ss) ≡ true
+unfolding allStages
+all-low [] = refl
+all-low (s ∷ ss) = rw (low s) (all-low ss)
+
+as-many : (ss : List Stage) → length (ranks ss) ≡ length ss
+as-many [] = refl
+as-many (s ∷ ss) = ap suc (as-many ss)
+
+pub are-stages : (n : ℕ) (ss : List Stage) → length ss ≡ n → areStages n (ranks ss) ≡ true
+are-stages n ss e = and-from (eqb (length (ranks ss)) n) (allStages (ranks ss)) (eq-eqb (length (ranks ss)) n (as-many ss ∙ e)) (all-low ss)

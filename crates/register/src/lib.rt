@@ -3,7 +3,9 @@
 mod follow;
 mod kinds;
 mod owner;
+mod reads;
 mod steps;
+mod work;
 
 pub use kinds::Record;
 pub use owner::Register;
