@@ -55,7 +55,12 @@ fn all_at(leases: &[Lease], long: u64, reading: u64, index: usize, stage: Stage)
 
 /// The book with a new lease: it takes the place of one of the same office and stages, and leases that are over are
 /// dropped.
-fn with_lease(heap: Global, leases: &[Lease], long: u64, new: Lease) -> Result<Vec<Lease>, AllocError>
+fn with_lease(
+    heap: Global,
+    leases: &[Lease],
+    long: u64,
+    new: Lease,
+) -> Result<Vec<Lease>, AllocError>
     ensures { λ r. ⌜ made r (λ v. bookOf (vec-items v) ≡ noted long (leaseOf new) (bookOf (now (leases .entry)))) ⌝ }
 {
     let mut book = Vec::new(heap);
@@ -73,7 +78,9 @@ impl Book {
     pub fn new(heap: Global) -> Book
         ensures { λ r. ⌜ vec-items (r .leases) ≡ [] ⌝ }
     {
-        Book { leases: Vec::new(heap) }
+        Book {
+            leases: Vec::new(heap),
+        }
     }
 
     /// Notes a lease. Without memory the book is as it was.
@@ -96,6 +103,12 @@ impl Book {
     pub fn all_at(&self, long: u64, reading: u64, index: Slot, stage: Stage) -> bool
         ensures { λ r. ⌜ r ≡ allAt long reading (index .number) (rank stage) (bookOf (vec-items (now (self .entry) .leases))) ⌝ }
     {
-        all_at(self.leases.as_slice(), long, reading, index.number() as usize, stage)
+        all_at(
+            self.leases.as_slice(),
+            long,
+            reading,
+            index.number() as usize,
+            stage,
+        )
     }
 }

@@ -75,9 +75,11 @@ module _ (os : List Entries) (at : ℕ) (e f : Entries) (x : Index) (k : ℕ) (l
       → OneKey r (isNone (whyNotClear 4096 true (headOf x)) && eqb k (doneOf (headOf x))) (headOf x) at (cleanedUp k (entryIn os at)) os (set os at f)
   cleared-one (Ok y) (why, did) =
       let m : mayClear 4096 (headOf x) ≡ true = may _ _ why in
-      let s = one-turn (λ w. mayClear 4096 (w .head)) cleared (workOn x (entryOf e)) (workOn y (entryOf f)) m did in
-      (rw (why, eq-eqb k (doneOf (headOf x)) next), ap (λ (w : Work). w .head) s,
-        put-back os at f (cleanedUp k (entryIn os at)) l (λ j. ap (λ (w : Work). w .entries j) s ∙ sym (ap₂ (λ n g. cleanedUp n g j) next is)))
+      let s = one-turn (λ w. mayClear 4096 (w .head)) cleared (workOn x (entryOf e)) (workOn y (entryOf f)) m did in (
+        rw (why, eq-eqb k (doneOf (headOf x)) next),
+        ap (λ (w : Work). w .head) s,
+        put-back os at f (cleanedUp k (entryIn os at)) l (λ j. ap (λ (w : Work). w .entries j) s ∙ sym (ap₂ (λ n g. cleanedUp n g j) next is)),
+      )
   cleared-one (Err z) (why, same) = (not-may _ _ _ why, refused same)
 
   pub filled-one : (rows : ℕ → Option ℕ) (r : Result Index Refusal) → mustTurn 4096 rows (entryOf e) (headOf x) ≡ false
@@ -86,12 +88,13 @@ module _ (os : List Entries) (at : ℕ) (e f : Entries) (x : Index) (k : ℕ) (l
   filled-one rows (Ok y) free (why, did) =
       let m : mayFill 4096 (headOf x) ≡ true = may _ _ why in
       let s = one-turn (λ w. mayFill 4096 (w .head)) (filled 4096 rows) (workOn x (entryOf e)) (workOn y (entryOf f)) m did in
-      let t : mustTurn 4096 rows (entryIn os at) (headOf x) ≡ false = ap (λ g. mustTurn 4096 rows g (headOf x)) is ∙ free in
-      (rw (why, eq-eqb k (doneOf (headOf x)) next, t),
+      let t : mustTurn 4096 rows (entryIn os at) (headOf x) ≡ false = ap (λ g. mustTurn 4096 rows g (headOf x)) is ∙ free in (
+        rw (why, eq-eqb k (doneOf (headOf x)) next, t),
         ap (λ (w : Work). w .head) s ∙ ap (λ b. cond b (turnedDown (headOf x)) (onward (headOf x))) free,
         put-back os at f (backfilled k rows (entryIn os at)) l (λ j. ap (λ (w : Work). w .entries j) s
             ∙ ap (λ b. cond b (entryOf e j) (backfilled (doneOf (headOf x)) rows (entryOf e) j)) free
-            ∙ sym (ap₂ (λ n g. backfilled n rows g j) next is)))
+            ∙ sym (ap₂ (λ n g. backfilled n rows g j) next is)),
+      )
   filled-one rows (Err z) free (why, same) = (rw (not-may _ _ (eqb k (doneOf (headOf x))) why), refused same)
 
 -- what an index that is there has of a row
@@ -108,8 +111,11 @@ module _ (R : rules.Register) (i k : ℕ) (x y : Index) (fs : ℕ → ℕ → Op
 
   worked : (es : ℕ → Option ℕ) → ((n j : ℕ) → fs n j ≡ update i es (R .entry) n j) → _≡_ {A = rules.Register} (record { row = R .row; entry = fs; head = update i (headOf y) (R .head); epoch = R .epoch }) (workedOn i es R)
   worked es f = λ t. record {
-      row = R .row; entry = fun-ext (λ n. fun-ext (λ j. f n j)) t;
-      head = ap (λ h. update i h (R .head)) (onwards ∙ ap onward (sym is)) t; epoch = R .epoch }
+    row = R .row;
+    entry = fun-ext (λ n. fun-ext (λ j. f n j)) t;
+    head = ap (λ h. update i h (R .head)) (onwards ∙ ap onward (sym is)) t;
+    epoch = R .epoch;
+  }
 
   pub did-clear : isNone (whyNotClear 4096 true (headOf x)) && eqb k (doneOf (headOf x)) ≡ true → ((n j : ℕ) → fs n j ≡ update i (cleanedUp k (R .entry i)) (R .entry) n j)
       → (canDo (rules.cleared i k) R ≡ true) × (_≡_ {A = rules.Register} (record { row = R .row; entry = fs; head = update i (headOf y) (R .head); epoch = R .epoch }) (applied (rules.cleared i k) R))

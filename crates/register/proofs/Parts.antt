@@ -7,18 +7,24 @@ use Prim.Native.Nat.{ℕ, zero, suc, _+_, _<_, _≤_}
 use native.Mathlib.Omega.{arith}
 use lib.Dec.{eqb, leb}
 use lib.ListN.{length, getD, set, replicate}
+use Rattle.std.proofs.shelf.Lists.{getD-default}
 use Rattle.std.proofs.shelf.Tests.{cases-eq, eq-eqb, ne-eqb, and-from}
 use Rattle.std.specs.declared.option.Option.{Option}
 use Rattle.std.specs.declared.option.Option.the-variants.{Some, None}
 use Rattle.table.specs.declared.owners.Entries.{Entries}
+use Rattle.table.specs.declared.row.Row.{Row}
 use Rattle.table.specs.declared.owners.Rows.{Rows}
 use Rattle.table.specs.Held.{entryOf, rowOf}
 use Rattle.table.specs.Update.{update}
 use Rattle.stage.specs.declared.kinds.Stage.{Stage}
 use Rattle.stage.specs.declared.kinds.Stage.the-variants.{Absent, DeleteOnly, WriteOnly, Public}
 use Rattle.stage.specs.Stages.{rank, ranks}
-use Rattle.change.specs.Protocol.{gone}
-use Rattle.register.specs.Registers.{Register, bare, allStages, areStages}
+use Rattle.stage.proofs.Ranks.{rank-at}
+use Rattle.change.specs.declared.kinds.Index.{Index}
+use Rattle.change.specs.Index.{refuses}
+use Rattle.change.specs.Heads.{slotOf}
+use Rattle.change.specs.Protocol.{gone, stageOf}
+use Rattle.register.specs.Registers.{Register, bare, cellOf, allStages, areStages}
 use Rattle.register.specs.Held.{entryIn, headIn}
 
 -- the entries of one index
@@ -53,12 +59,13 @@ pub next-index : (es os : List Entries) (n : ℕ) (y : Entries) (A : ℕ → ℕ
     → ((j : ℕ) → entryOf y j ≡ A n j)
     → ((i j : ℕ) → i < n → entryIn es i j ≡ A i j) → ((i j : ℕ) → n ≤ i → entryIn es i j ≡ entryIn os i j)
     → ((i j : ℕ) → i < n + 1 → entryIn (set es n y) i j ≡ A i j) × ((i j : ℕ) → n + 1 ≤ i → entryIn (set es n y) i j ≡ entryIn os i j)
-next-index es os n y A l new done left =
-    ((λ i j h. ⊎-elim
-        (λ e. ap (λ m. entryIn (set es n y) m j) e ∙ entry-same es n y l j ∙ new j ∙ ap (λ m. A m j) (sym e))
-        (λ ne. entry-other es n i y ne j ∙ done i j (omega arith))
-        (cases-eq i n)),
-    (λ i j h. entry-other es n i y (λ e. omega arith) j ∙ left i j (omega arith)))
+next-index es os n y A l new done left = (
+  (λ i j h. ⊎-elim
+      (λ e. ap (λ m. entryIn (set es n y) m j) e ∙ entry-same es n y l j ∙ new j ∙ ap (λ m. A m j) (sym e))
+      (λ ne. entry-other es n i y ne j ∙ done i j (omega arith))
+      (cases-eq i n)),
+  (λ i j h. entry-other es n i y (λ e. omega arith) j ∙ left i j (omega arith)),
+)
 
 -- what is done to the entry of one key, where the entries before are known otherwise
 pub changed : (k : ℕ) (F : Option ℕ → Option ℕ) (f g : ℕ → Option ℕ) → ((j : ℕ) → f j ≡ g j) → (j : ℕ) → update k (F (f k)) f j ≡ update k (F (g k)) g j
@@ -105,3 +112,15 @@ as-many (s ∷ ss) = ap suc (as-many ss)
 
 pub are-stages : (n : ℕ) (ss : List Stage) → length ss ≡ n → areStages n (ranks ss) ≡ true
 are-stages n ss e = and-from (eqb (length (ranks ss)) n) (allStages (ranks ss)) (eq-eqb (length (ranks ss)) n (as-many ss ∙ e)) (all-low ss)
+
+-- whether one index refuses a row, by what is read of it
+pub refusal-at : (hs : List (Option Index)) (es : List Entries) (ss : List Stage) (k : ℕ) (row : Row) (n : ℕ) (d : Option Index) (e : Entries) → n < length hs → n < length es
+    → refuses 4096 (slotOf (getD hs n d)) (rank (getD ss n Absent)) k (cellOf (slotOf (getD hs n d)) (Some row)) (entryOf (getD es n e))
+    ≡ refuses 4096 (headIn hs n) (getD (ranks ss) n 0) k (cellOf (headIn hs n) (Some row)) (entryIn es n)
+refusal-at hs es ss k row n d e l m =
+    ap (λ h. refuses 4096 (slotOf h) (rank (getD ss n Absent)) k (cellOf (slotOf h) (Some row)) (entryOf (getD es n e))) (getD-default hs n d None l)
+    ∙ ap₂ (λ s f. refuses 4096 (headIn hs n) s k (cellOf (headIn hs n) (Some row)) f) (sym (rank-at ss n)) (sym (fun-ext (entry-at es n e m)))
+
+-- the stage of one index, by what is read of it
+pub stage-read : (hs : List (Option Index)) (n : ℕ) (d : Option Index) (s : ℕ) → n < length hs → s ≡ stageOf (slotOf (getD hs n d)) → s ≡ stageOf (headIn hs n)
+stage-read hs n d s l e = e ∙ ap (λ h. stageOf (slotOf h)) (getD-default hs n d None l)

@@ -2,7 +2,7 @@
 use mathlib.Core.Path.{_≡_}
 use mathlib.Core.Bool.{Bool, true, false, cond, _&&_, not}
 use mathlib.Core.List.{List, [], _∷_, _++_}
-use Prim.Native.Nat.{ℕ, _+_}
+use Prim.Native.Nat.{ℕ, zero, suc, _+_}
 use lib.Dec.{eqb, ltb, leb}
 use lib.ListN.{length, getD}
 use Rattle.std.specs.declared.option.Option.{Option}
@@ -10,8 +10,8 @@ use Rattle.std.specs.declared.option.Option.the-variants.{Some, None}
 use Rattle.table.specs.declared.row.Row.{Row}
 use Rattle.table.specs.Update.{update}
 use Rattle.table.specs.Layout.{valueIn}
-use Rattle.change.specs.Protocol.{Head, gone, there, up, doneOf, raised, turnedDown, lowered, onward, whyNotMake, whyNotUp, whyNotTurn, whyNotDown, whyNotFill, whyNotClear}
-use Rattle.change.specs.Index.{About, entriesWritten, backfilled, cleanedUp, mustTurn}
+use Rattle.change.specs.Protocol.{Head, gone, there, up, stageOf, doneOf, raised, turnedDown, lowered, onward, whyNotMake, whyNotUp, whyNotTurn, whyNotDown, whyNotFill, whyNotClear}
+use Rattle.change.specs.Index.{About, refuses, entriesWritten, backfilled, cleanedUp, mustTurn}
 use Rattle.change.specs.OneChange.{isNone}
 
 -- each key's row, each index's entries and head, and how often the store has come up
@@ -34,6 +34,15 @@ cellOf (there a w s d) r = valueIn (a .column) r
 abbrev pub rowsOf : (index : ℕ) → Register → ℕ → Option ℕ
 rowsOf i r k = cellOf (r .head i) (r .row k)
 
+-- the stages of all indexes
+unfoldable pub stagesNow : (indexes : ℕ) → Register → List ℕ
+stagesNow zero r = []
+stagesNow (suc n) r = stagesNow n r ++ (stageOf (r .head n) ∷ [])
+
+-- does an index refuse a key's row to whoever knows these stages
+abbrev pub refusedBy : (keys : ℕ) → Register → (stages : List ℕ) → (key : ℕ) → Row → (index : ℕ) → Bool
+refusedBy keys r ss k n i = refuses keys (r .head i) (getD ss i 0) k (cellOf (r .head i) (Some n)) (r .entry i)
+
 -- the records of the journal; stages: those that the writer knew, one for each index
 pub data Record : Type 0 where
   put : (key : ℕ) (row : Row) (stages : List ℕ) → Record
@@ -46,11 +55,11 @@ pub data Record : Type 0 where
 -- a key's row is put, changed or taken away by somebody who knows these stages
 abbrev pub wrote : (key : ℕ) → Option Row → (stages : List ℕ) → Register → Register
 wrote k n ss r = record {
-    row = update k n (r .row);
-    entry = λ i. entriesWritten (getD ss i 0) k (cellOf (r .head i) n) (rowsOf i r) (r .entry i);
-    head = r .head;
-    epoch = r .epoch;
-  }
+  row = update k n (r .row);
+  entry = λ i. entriesWritten (getD ss i 0) k (cellOf (r .head i) n) (rowsOf i r) (r .entry i);
+  head = r .head;
+  epoch = r .epoch;
+}
 
 -- an index has another head
 abbrev pub withHead : (index : ℕ) → Head About → Register → Register

@@ -21,7 +21,14 @@ use table::Entries;
 use table::Row;
 
 /// What a writer does to an index that may be there.
-fn follow_one(slot: Option<Index>, entries: &mut Entries, stage: Stage, key: Key, old: Option<Row>, write: Write)
+fn follow_one(
+    slot: Option<Index>,
+    entries: &mut Entries,
+    stage: Stage,
+    key: Key,
+    old: Option<Row>,
+    write: Write,
+)
     ensures { λ _. ⌜ ((j : ℕ) → entryOf (now (entries .exit)) j ≡ update (key .number) (entryAfter (rank stage) (cellOf (slotOf slot) old) (cellOf (slotOf slot) (written write)) (entryOf (now (entries .entry)) (key .number))) (entryOf (now (entries .entry))) j) ⌝ }
 {
     if let Some(head) = slot {
@@ -30,7 +37,14 @@ fn follow_one(slot: Option<Index>, entries: &mut Entries, stage: Stage, key: Key
 }
 
 /// What a writer does to all indexes.
-pub(super) fn follow_all(heads: &[Option<Index>; INDEXES], entries: &mut [Entries; INDEXES], stages: &[Stage; INDEXES], key: Key, old: Option<Row>, write: Write)
+pub(super) fn follow_all(
+    heads: &[Option<Index>; INDEXES],
+    entries: &mut [Entries; INDEXES],
+    stages: &[Stage; INDEXES],
+    key: Key,
+    old: Option<Row>,
+    write: Write,
+)
     requires { ⌜ length (now entries) ≡ 8 ⌝ }
     ensures long { λ _. ⌜ length (now (entries .exit)) ≡ 8 ⌝ }
     ensures entries { λ _. ⌜ ((i j : ℕ) → entryIn (now (entries .exit)) i j ≡ update (key .number) (entryAfter (getD (ranks (now (stages .entry))) i 0) (cellOf (headIn (now (heads .entry)) i) old) (cellOf (headIn (now (heads .entry)) i) (written write)) (entryIn (now (entries .entry)) i (key .number))) (entryIn (now (entries .entry)) i) j) ⌝ }

@@ -44,7 +44,12 @@ impl Register {
         let f = Entries::new(heap)?;
         let g = Entries::new(heap)?;
         let h = Entries::new(heap)?;
-        Ok(Register { rows, entries: [a, b, c, d, e, f, g, h], heads: [None; INDEXES], epoch: 0 })
+        Ok(Register {
+            rows,
+            entries: [a, b, c, d, e, f, g, h],
+            heads: [None; INDEXES],
+            epoch: 0,
+        })
     }
 
     /// Writes a key's row, and what follows from it to the indexes, as whoever knows these stages does.
@@ -154,7 +159,13 @@ impl Register {
         let Some(head) = slot else {
             return Err(Refusal::NoIndex);
         };
-        let next = fill_one(head, &self.rows, &mut self.entries, index.number() as usize, key)?;
+        let next = fill_one(
+            head,
+            &self.rows,
+            &mut self.entries,
+            index.number() as usize,
+            key,
+        )?;
         self.set_head(index, Some(next));
         Ok(())
     }

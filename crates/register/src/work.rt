@@ -26,13 +26,26 @@ pub(super) fn is_taken(head: Index, rows: &Rows, entries: &Entries, key: Key) ->
     ensures { λ r. ⌜ r ≡ refuses 4096 (headOf head) 2 (key .number) (valueIn (head .column .number) (rowOf (now (rows .entry)) (key .number))) (entryOf (now (entries .entry))) ⌝ }
 {
     match rows.get(key) {
-        Some(row) => stage::refuses(entries, head.unique, Stage::WriteOnly, head.column, key, Write::Put(row)),
+        Some(row) => stage::refuses(
+            entries,
+            head.unique,
+            Stage::WriteOnly,
+            head.column,
+            key,
+            Write::Put(row),
+        ),
         None => false,
     }
 }
 
 /// Puts in the entry of a key's row, if the key is the next.
-pub(super) fn fill_one(head: Index, rows: &Rows, entries: &mut [Entries; INDEXES], at: usize, key: Key) -> Result<Index, Refusal>
+pub(super) fn fill_one(
+    head: Index,
+    rows: &Rows,
+    entries: &mut [Entries; INDEXES],
+    at: usize,
+    key: Key,
+) -> Result<Index, Refusal>
     requires { ⌜ length (now entries) ≡ 8 ⌝ ∗ ⌜ at < 8 ⌝ }
     ensures long { λ _. ⌜ length (now (entries .exit)) ≡ 8 ⌝ }
     ensures key { λ r. ⌜ OneKey r (isNone (whyNotFill 4096 true (headOf head)) && eqb (key .number) (doneOf (headOf head)) && not (mustTurn 4096 (λ k. valueIn (head .column .number) (rowOf (now (rows .entry)) k)) (entryIn (now (entries .entry)) at) (headOf head))) (headOf head) at (backfilled (key .number) (λ k. valueIn (head .column .number) (rowOf (now (rows .entry)) k)) (entryIn (now (entries .entry)) at)) (now (entries .entry)) (now (entries .exit)) ⌝ }
@@ -47,7 +60,12 @@ pub(super) fn fill_one(head: Index, rows: &Rows, entries: &mut [Entries; INDEXES
 }
 
 /// Takes out the entry of a key, if the key is the next.
-pub(super) fn clear_one(head: Index, entries: &mut [Entries; INDEXES], at: usize, key: Key) -> Result<Index, Refusal>
+pub(super) fn clear_one(
+    head: Index,
+    entries: &mut [Entries; INDEXES],
+    at: usize,
+    key: Key,
+) -> Result<Index, Refusal>
     requires { ⌜ length (now entries) ≡ 8 ⌝ ∗ ⌜ at < 8 ⌝ }
     ensures long { λ _. ⌜ length (now (entries .exit)) ≡ 8 ⌝ }
     ensures key { λ r. ⌜ OneKey r (isNone (whyNotClear 4096 true (headOf head)) && eqb (key .number) (doneOf (headOf head))) (headOf head) at (cleanedUp (key .number) (entryIn (now (entries .entry)) at)) (now (entries .entry)) (now (entries .exit)) ⌝ }

@@ -16,7 +16,11 @@ impl Slot {
     pub fn new(number: u8) -> Option<Slot>
         ensures { λ r. ⌜ Cases r (8 ≤ number) (λ s. s .number ≡ number) ⌝ }
     {
-        if number < 8 { Some(Slot { number }) } else { None }
+        if number < 8 {
+            Some(Slot { number })
+        } else {
+            None
+        }
     }
 
     /// The index's number.

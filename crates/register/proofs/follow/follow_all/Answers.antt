@@ -34,24 +34,27 @@ loop-i-again c =
     let inside : n < length es = omega arith in
     let old : (j : ℕ) → entryOf x j ≡ entryIn os n j = λ j. sym (entry-at es n (c .index-entries-i .result) inside j) ∙ c .loop-i .inv .1 n j (omega arith) in
     let new : (j : ℕ) → entryOf y j ≡ A n j = λ j.
-        c .follow-one .ensures j
-        ∙ ap (λ h. update k (G (slotOf h) (rank (getD (c .args .stages .now) n Absent)) (entryOf x k)) (entryOf x) j) (getD-default (c .args .heads .now) n (c .index-heads-i .result) None (omega arith))
-        ∙ changed k (F (rank (getD (c .args .stages .now) n Absent)) n) (entryOf x) (entryIn os n) old j
-        ∙ ap (λ s. update k (F s n (entryIn os n k)) (entryIn os n) j) (sym (rank-at (c .args .stages .now) n)) in
+    c .follow-one .ensures j
+    ∙ ap (λ h. update k (G (slotOf h) (rank (getD (c .args .stages .now) n Absent)) (entryOf x k)) (entryOf x) j) (getD-default (c .args .heads .now) n (c .index-heads-i .result) None (omega arith))
+    ∙ changed k (F (rank (getD (c .args .stages .now) n Absent)) n) (entryOf x) (entryIn os n) old j
+    ∙ ap (λ s. update k (F s n (entryIn os n k)) (entryIn os n) j) (sym (rank-at (c .args .stages .now) n)) in
     let (done, rest) = next-index es os n y A inside new (c .loop-i .inv .0) (c .loop-i .inv .1) in
     (done, rest, length-set es n y ∙ c .loop-i .inv .2)
 
 pub returns : need.returns
 returns c =
-    record { long = c .loop-i .inv .2; entries = λ i j.
-    let k = c .args .key .number in
-    let ss = c .args .stages .now in
-    let os = c .args .entries .now in
-    let F : ℕ → Option ℕ → Option ℕ = λ s. entryAfter s (cellOf (headIn (c .args .heads .now) i) (c .args .old)) (cellOf (headIn (c .args .heads .now) i) (written (c .args .write))) in
-    ⊎-elim
-    (λ (l : i < 8). c .loop-i .inv .0 i j (omega arith))
-    (λ (l : 8 ≤ i).
-        let long : length ss ≤ i = omega arith in
-        let none : getD (ranks ss) i 0 ≡ 0 = rank-at ss i ∙ ap rank (List·getD-eq-default ss Absent long) in
-        c .loop-i .inv .1 i j (omega arith) ∙ unchanged k (entryIn os i) j ∙ ap (λ s. update k (F s (entryIn os i k)) (entryIn os i) j) (sym none))
-    (cases-lt i 8) }
+    record {
+      long = c .loop-i .inv .2;
+      entries = λ i j.
+          let k = c .args .key .number in
+          let ss = c .args .stages .now in
+          let os = c .args .entries .now in
+          let F : ℕ → Option ℕ → Option ℕ = λ s. entryAfter s (cellOf (headIn (c .args .heads .now) i) (c .args .old)) (cellOf (headIn (c .args .heads .now) i) (written (c .args .write))) in
+          ⊎-elim
+          (λ (l : i < 8). c .loop-i .inv .0 i j (omega arith))
+          (λ (l : 8 ≤ i).
+          let long : length ss ≤ i = omega arith in
+          let none : getD (ranks ss) i 0 ≡ 0 = rank-at ss i ∙ ap rank (List·getD-eq-default ss Absent long) in
+          c .loop-i .inv .1 i j (omega arith) ∙ unchanged k (entryIn os i) j ∙ ap (λ s. update k (F s (entryIn os i k)) (entryIn os i) j) (sym none))
+          (cases-lt i 8);
+    }

@@ -31,5 +31,5 @@ returns c =
     let is : headIn (s .heads) i ≡ headOf (c .in-Some .head) = ap (λ n. slotOf (getD (s .heads) n None)) (sym (c .number .ensures)) ∙ ap slotOf slot in
     let (may, onwards, entries) = c .in-Continue-next .ensures tt .key in
     let (can, did) = did-clear (registerOf s) i k (c .in-Some .head) (c .in-Continue-next .next) (entryIn (c .clear-one .last .entries)) (c .args .index .small) is onwards may
-        (λ m j. entries m j ∙ ap (λ n. update n (cleanedUp k (entryIn (s .entries) n)) (entryIn (s .entries)) m j) (c .number-2 .ensures)) in
+    (λ m j. entries m j ∙ ap (λ n. update n (cleanedUp k (entryIn (s .entries) n)) (entryIn (s .entries)) m j) (c .number-2 .ensures)) in
     (can, c .set-head .ensures ∙ did)

@@ -34,5 +34,5 @@ returns c =
     let (may, onwards, entries) = c .in-Continue-next .ensures tt .key in
     let can : isNone (whyNotFill 4096 true h) && eqb k (doneOf h) && not (mustTurn 4096 rows (entryIn (s .entries) i) h) ≡ true = ap (λ n. isNone (whyNotFill 4096 true h) && eqb k (doneOf h) && not (mustTurn 4096 rows (entryIn (s .entries) n) h)) (sym (c .number-2 .ensures)) ∙ may in
     let (can, did) = did-fill (registerOf s) i k (c .in-Some .head) (c .in-Continue-next .next) (entryIn (c .fill-one .last .entries)) (c .args .index .small) is onwards can
-        (λ m j. entries m j ∙ ap (λ n. update n (backfilled k rows (entryIn (s .entries) n)) (entryIn (s .entries)) m j) (c .number-2 .ensures)) in
+    (λ m j. entries m j ∙ ap (λ n. update n (backfilled k rows (entryIn (s .entries) n)) (entryIn (s .entries)) m j) (c .number-2 .ensures)) in
     (can, c .set-head .ensures ∙ did)

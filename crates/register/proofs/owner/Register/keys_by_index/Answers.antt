@@ -16,4 +16,4 @@ returns c =
     let inside : c .number .result < length (s .entries) = omega (arith, c .number .ensures, c .args .index .small, s .«entries_long») in
     let is = entries-read (s .entries) (c .number .result) (c .args .index .number) (c .index-self-number .result) (c .number .ensures) inside (c .index-self-number .is) ∙ ap entryOf (c .index-self-number .is) in
     made-weaker (c .keys-for .result) (λ v. vec-items v ≡ keysFor 4096 (entryOf e) (c .args .value)) _
-        (λ v q. q ∙ ap (λ f. keysFor 4096 f (c .args .value)) (sym is)) (c .keys-for .ensures)
+    (λ v q. q ∙ ap (λ f. keysFor 4096 f (c .args .value)) (sym is)) (c .keys-for .ensures)
