@@ -53,6 +53,11 @@ numberOf AllDone = 7
 numberOf Quiet = 8
 numberOf NoRow = 9
 
+-- the number of a refusal, if there is one
+abbrev pub numbered : Option Refusal → Option ℕ
+numbered None = None
+numbered (Some e) = Some (numberOf e)
+
 -- a step hands back the head after it where nothing is against it, and else the refusal of that number
 abbrev pub Stepped : {X : Type 0} → (X → Head About) → Result X Refusal → (why : Option ℕ) → (after : Head About) → Type 0
 Stepped view (Ok x) why h = (why ≡ None) × (view x ≡ h)

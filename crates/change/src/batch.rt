@@ -11,7 +11,7 @@ ghost use Rattle.table.specs.Update.{update};
 ghost use Rattle.stage.specs.Stages.{putIn};
 ghost use Rattle.change.specs.Index.{refuses as refusedIn, backfilled};
 ghost use Rattle.change.specs.Protocol.{whyNotFill, whyNotClear};
-ghost use Rattle.change.specs.Heads.{headOf, workOn, Worked};
+ghost use Rattle.change.specs.Heads.{headOf, numbered, workOn, Worked};
 ghost use Rattle.change.specs.Batches.{filledN, clearedN};
 use super::kinds::Index;
 use super::kinds::Refusal;
@@ -90,26 +90,39 @@ fn cleanup(head: Index, entries: &mut Entries, count: u16) -> Index
     Index { done: end, ..head }
 }
 
-/// Backfill over the next `count` keys, up to one whose value is taken in a unique index: the change then turns.
-pub fn fill(
-    head: Index,
-    alone: bool,
-    rows: &Rows,
-    entries: &mut Entries,
-    count: u16,
-) -> Result<Index, Refusal>
-    ensures { λ r. ⌜ Worked r (whyNotFill 4096 alone (headOf head)) (entryOf (now (entries .entry))) (entryOf (now (entries .exit))) (filledN 4096 (λ k. valueIn (head .column .number) (rowOf (now (rows .entry)) k)) count (workOn head (entryOf (now (entries .entry))))) ⌝ }
+/// Why backfill may not go on, if it may not.
+pub fn why_not_fill(head: Index, alone: bool) -> Option<Refusal>
+    ensures why { λ r. ⌜ numbered r ≡ whyNotFill 4096 alone (headOf head) ⌝ }
+    ensures stands { λ r. ⌜ (r ≡ None → (head .way ≡ Way.Up Stage.WriteOnly) × (head .done < 4096)) ⌝ }
 {
     match (head.way, alone) {
-        (Way::Up(Stage::WriteOnly), true) if head.done < KEYS => Ok(backfill(
-            head,
-            rows,
-            entries,
-            count,
-        )),
-        (Way::Up(Stage::WriteOnly), true) => Err(Refusal::AllDone),
-        (_, true) => Err(Refusal::NotNow),
-        (_, false) => Err(Refusal::OtherStage),
+        (Way::Up(Stage::WriteOnly), true) if head.done < KEYS => None,
+        (Way::Up(Stage::WriteOnly), true) => Some(Refusal::AllDone),
+        (_, true) => Some(Refusal::NotNow),
+        (_, false) => Some(Refusal::OtherStage),
+    }
+}
+
+/// Why cleanup may not go on, if it may not.
+pub fn why_not_clear(head: Index, alone: bool) -> Option<Refusal>
+    ensures why { λ r. ⌜ numbered r ≡ whyNotClear 4096 alone (headOf head) ⌝ }
+    ensures stands { λ r. ⌜ (r ≡ None → (head .way ≡ Way.Down Stage.DeleteOnly) × (head .done < 4096)) ⌝ }
+{
+    match (head.way, alone) {
+        (Way::Down(Stage::DeleteOnly), true) if head.done < KEYS => None,
+        (Way::Down(Stage::DeleteOnly), true) => Some(Refusal::AllDone),
+        (_, true) => Some(Refusal::NotNow),
+        (_, false) => Some(Refusal::OtherStage),
+    }
+}
+
+/// Backfill over the next `count` keys, up to one whose value is taken in a unique index: the change then turns.
+pub fn fill(head: Index, alone: bool, rows: &Rows, entries: &mut Entries, count: u16) -> Result<Index, Refusal>
+    ensures { λ r. ⌜ Worked r (whyNotFill 4096 alone (headOf head)) (entryOf (now (entries .entry))) (entryOf (now (entries .exit))) (filledN 4096 (λ k. valueIn (head .column .number) (rowOf (now (rows .entry)) k)) count (workOn head (entryOf (now (entries .entry))))) ⌝ }
+{
+    match why_not_fill(head, alone) {
+        Some(refusal) => Err(refusal),
+        None => Ok(backfill(head, rows, entries, count)),
     }
 }
 
@@ -117,14 +130,8 @@ pub fn fill(
 pub fn clear(head: Index, alone: bool, entries: &mut Entries, count: u16) -> Result<Index, Refusal>
     ensures { λ r. ⌜ Worked r (whyNotClear 4096 alone (headOf head)) (entryOf (now (entries .entry))) (entryOf (now (entries .exit))) (clearedN 4096 count (workOn head (entryOf (now (entries .entry))))) ⌝ }
 {
-    match (head.way, alone) {
-        (Way::Down(Stage::DeleteOnly), true) if head.done < KEYS => Ok(cleanup(
-            head,
-            entries,
-            count,
-        )),
-        (Way::Down(Stage::DeleteOnly), true) => Err(Refusal::AllDone),
-        (_, true) => Err(Refusal::NotNow),
-        (_, false) => Err(Refusal::OtherStage),
+    match why_not_clear(head, alone) {
+        Some(refusal) => Err(refusal),
+        None => Ok(cleanup(head, entries, count)),
     }
 }

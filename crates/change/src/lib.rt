@@ -17,6 +17,8 @@ mod theorems;
 
 pub use batch::clear;
 pub use batch::fill;
+pub use batch::why_not_clear;
+pub use batch::why_not_fill;
 pub use kinds::Index;
 pub use kinds::Refusal;
 pub use kinds::Way;
