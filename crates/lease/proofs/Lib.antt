@@ -1,1 +1,4 @@
 pub mod Turns
+pub mod Books
+pub mod Sizes
+pub mod Clocks

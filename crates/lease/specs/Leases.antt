@@ -31,15 +31,23 @@ sameList (x ∷ xs) (y ∷ ys) = eqb x y && sameList xs ys
 abbrev pub isOf : (office : ℕ) → (stages : List ℕ) → Lease → Bool
 isOf o ss l = eqb (l .office) o && sameList (l .stages) ss
 
+-- does a lease run, and is it of that office and these stages
+abbrev pub stands : (long reading office : ℕ) → (stages : List ℕ) → Lease → Bool
+stands long t o ss l = runs long t l && isOf o ss l
+
 -- has an office a lease that runs, of these stages
 unfoldable pub holds : (long reading office : ℕ) → (stages : List ℕ) → List Lease → Bool
 holds long t o ss [] = false
-holds long t o ss (l ∷ ls) = (runs long t l && isOf o ss l) || holds long t o ss ls
+holds long t o ss (l ∷ ls) = stands long t o ss l || holds long t o ss ls
+
+-- is a lease over, or of that stage of an index
+abbrev pub isAt : (long reading index stage : ℕ) → Lease → Bool
+isAt long t i s l = not (runs long t l) || eqb (stageAt (l .stages) i) s
 
 -- is every lease that runs of that stage of an index
 unfoldable pub allAt : (long reading index stage : ℕ) → List Lease → Bool
 allAt long t i s [] = true
-allAt long t i s (l ∷ ls) = (not (runs long t l) || eqb (stageAt (l .stages) i) s) && allAt long t i s ls
+allAt long t i s (l ∷ ls) = isAt long t i s l && allAt long t i s ls
 
 -- does a lease stay beside a new one: it still runs, and is of another office or other stages
 abbrev pub stays : (long : ℕ) → (new : Lease) → Lease → Bool

@@ -1,0 +1,5 @@
+pub mod Calls
+pub mod World
+pub mod Promise
+pub mod Examples
+pub mod Held

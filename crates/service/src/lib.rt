@@ -1,0 +1,10 @@
+//! The store: calls, answers, and what they leave.
+
+mod decide;
+mod kinds;
+mod owner;
+
+pub use kinds::Answer;
+pub use kinds::Call;
+pub use kinds::Claim;
+pub use owner::Store;
