@@ -1,6 +1,8 @@
 //! The store: calls, answers, and what they leave.
 
+mod call;
 mod decide;
+mod grant;
 mod kinds;
 mod owner;
 
