@@ -7,3 +7,4 @@ pub mod Ends
 pub mod Promises
 pub mod Witness
 pub mod Claims
+pub mod Done

@@ -1,5 +1,6 @@
 -- The code's store, calls and answers as the rules see them.
 use mathlib.Core.Path.{_≡_}
+use mathlib.Core.Bool.{true}
 use mathlib.Core.List.{List}
 use Prim.Native.Nat.{ℕ}
 use Rattle.std.specs.declared.option.Option.{Option}
@@ -61,6 +62,11 @@ answerOf (Refused e) = refused (numberOf e)
 abbrev pub recordIn : Option codes.Record → Option rules.Record
 recordIn None = None
 recordIn (Some x) = Some (held.recordOf x)
+
+-- a record that can be done is done; without one nothing is
+abbrev pub Carried : Option rules.Record → (before after : rules.Register) → Type 0
+Carried None r q = q ≡ r
+Carried (Some x) r q = held.canDo x r ≡ true → q ≡ rules.applied x r
 
 -- a call comes at a reading: what is answered, the record that is written, and the store afterwards
 pub record Called (long : ℕ) (before after : calls.Store) (t : ℕ) (c : Call) (a : Answer) (x : Option codes.Record) : Type 0 where

@@ -26,7 +26,7 @@ use table::Column;
 use table::Row;
 
 /// How many offices there are.
-const OFFICES: u8 = 64;
+pub(super) const OFFICES: u8 = 64;
 
 impl Store {
     /// Whether an office has no running lease of this epoch and these stages.
