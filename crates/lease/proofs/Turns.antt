@@ -1,18 +1,19 @@
 -- Loops over leases and stages: what is left of the list decides.
 use mathlib.Core.Path.{_≡_, refl, sym, _∙_, ap}
-use mathlib.Core.Bool.{Bool, true, false, cond, not, _&&_, _||_, true≢false}
+use mathlib.Core.Bool.{Bool, true, false, cond, _&&_, _||_, true≢false}
 use mathlib.Core.List.{List, [], _∷_, _++_, append-assoc, map}
 use Prim.Native.Nat.{ℕ, _+_, _<_, _≤_}
 use lib.Dec.{eqb}
 use lib.ListN.{getD, drop, length}
 use Rattle.std.proofs.shelf.Lists.{drop-all, drop-more, at-drop-more, at-drop-all}
+use Rattle.std.specs.declared.option.Option.the-variants.{Some, None}
 use Rattle.stage.specs.declared.kinds.Stage.{Stage}
 use Rattle.stage.specs.declared.kinds.Stage.the-variants.{Absent}
 use Rattle.stage.specs.Stages.{rank, ranks}
 use Rattle.lease.specs.declared.kinds.Lease.{Lease}
 use Rattle.lease.specs.Leases as rules
-use Rattle.lease.specs.Leases.{sameList, holds, allAt, leftBeside, runs, isOf, stays, stageAt}
-use Rattle.lease.specs.Books.{leaseOf, bookOf}
+use Rattle.lease.specs.Leases.{sameList, stands, holds, isAt, allAt, leftBeside, stays}
+use Rattle.lease.specs.Books.{leaseOf, bookOf, newestOf}
 
 abbrev pub any : Lease
 any = record { office = 0; stages = []; since = 0 }
@@ -28,7 +29,7 @@ same-none ss ts n h k = rw (drop-all n ss h, drop-all n ts k)
 
 module _ (long t : ℕ) (ls : List Lease) (n : ℕ) where
   pub holds-left : (o : ℕ) (ss : List ℕ) → n < length ls →
-      holds long t o ss (bookOf (drop n ls)) ≡ (runs long t (leaseOf (getD ls n any)) && isOf o ss (leaseOf (getD ls n any))) || holds long t o ss (bookOf (drop (n + 1) ls))
+      holds long t o ss (bookOf (drop n ls)) ≡ stands long t o ss (leaseOf (getD ls n any)) || holds long t o ss (bookOf (drop (n + 1) ls))
   unfolding holds
   holds-left o ss h = at-drop-more (λ (x : List Lease). holds long t o ss (bookOf x)) ls n any h
 
@@ -37,13 +38,23 @@ module _ (long t : ℕ) (ls : List Lease) (n : ℕ) where
   holds-none o ss h = at-drop-all (λ (x : List Lease). holds long t o ss (bookOf x)) ls n h
 
   pub all-left : (i s : ℕ) → n < length ls →
-      allAt long t i s (bookOf (drop n ls)) ≡ (not (runs long t (leaseOf (getD ls n any))) || eqb (stageAt (ranks (getD ls n any .stages)) i) s) && allAt long t i s (bookOf (drop (n + 1) ls))
+      allAt long t i s (bookOf (drop n ls)) ≡ isAt long t i s (leaseOf (getD ls n any)) && allAt long t i s (bookOf (drop (n + 1) ls))
   unfolding allAt
   all-left i s h = at-drop-more (λ (x : List Lease). allAt long t i s (bookOf x)) ls n any h
 
   pub all-none : (i s : ℕ) → length ls ≤ n → allAt long t i s (bookOf (drop n ls)) ≡ true
   unfolding allAt
   all-none i s h = at-drop-all (λ (x : List Lease). allAt long t i s (bookOf x)) ls n h
+
+module _ (o : ℕ) (ls : List Lease) (n : ℕ) where
+  pub newest-left : n < length ls →
+      newestOf o (bookOf (drop n ls)) ≡ cond (eqb (getD ls n any .office) o) (Some (ranks (getD ls n any .stages))) (newestOf o (bookOf (drop (n + 1) ls)))
+  unfolding newestOf
+  newest-left h = at-drop-more (λ (x : List Lease). newestOf o (bookOf x)) ls n any h
+
+  pub newest-none : length ls ≤ n → newestOf o (bookOf (drop n ls)) ≡ None
+  unfolding newestOf
+  newest-none h = at-drop-all (λ (x : List Lease). newestOf o (bookOf x)) ls n h
 
 module _ (long : ℕ) (new : rules.Lease) (ls : List Lease) (n : ℕ) where
   pub beside-left : n < length ls →

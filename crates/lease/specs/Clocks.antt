@@ -16,10 +16,14 @@ pub record Counts (p : Times) (from : ℕ) (clock : ℕ → ℕ) : Type 0 where
   pub notFast : (a b : ℕ) → from ≤ a → a ≤ b → 1000000 * (p .grain * clock b) ≤ 1000000 * (p .grain * clock a) + (1000000 + p .rate) * (b - a) + 1000000 * p .grain
   pub notSlow : (a b : ℕ) → from ≤ a → a ≤ b → (1000000 - p .rate) * (b - a) + 1000000 * (p .grain * clock a) ≤ 1000000 * (p .grain * clock b) + 1000000 * p .grain
 
+-- these times fit: an office with a slow clock is done with a lease before it has run out by the fast clock of a store
+abbrev pub Fits : (long short rate : ℕ) → Type 0
+Fits long short rate = (short + 1) * (1000000 + rate) + 2000000 ≤ (long - 1) * (1000000 - rate)
+
 -- how long leases run by the store's clock fits how long offices act on them by theirs
 pub record Fit (long : ℕ) (p : Times) : Type 0 where
   pub some-grain : 1 ≤ p .grain
-  pub within : (p .short + 1) * (1000000 + p .rate) + 2000000 ≤ (long - 1) * (1000000 - p .rate)
+  pub within : Fits long (p .short) (p .rate)
 
 -- does an office act on a lease: what its own clock shows now, and what it showed when it asked
 abbrev pub acts : (short asked own : ℕ) → Bool

@@ -1,3 +1,4 @@
 pub mod Leases
 pub mod Clocks
 pub mod Books
+pub mod Desks

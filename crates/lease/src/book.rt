@@ -1,17 +1,15 @@
 //! The store's book of leases.
 
 ghost use mathlib.Core.Path.{_≡_};
-ghost use mathlib.Core.Bool.{Bool, true, false, cond, not, _&&_, _||_};
-ghost use mathlib.Core.List.{List, [], _∷_, map};
-ghost use Prim.Native.Nat.{ℕ, _+_, _-_, _<_, _≤_};
-ghost use lib.ListN.{length, getD};
-ghost use lib.Dec.{eqb, ltb};
+ghost use mathlib.Core.List.{[]};
+ghost use Prim.Native.Nat.{ℕ, _<_};
 ghost use Rattle.std.specs.Of.Vec.{vec-items};
 ghost use Rattle.std.specs.Vec.{made};
 ghost use Rattle.std.specs.Results.{Cases};
+ghost use Rattle.std.specs.Options.{mapped};
 ghost use Rattle.stage.specs.Stages.{rank, ranks};
-ghost use Rattle.lease.specs.Leases.{runs, isOf, holds, allAt, stays, leftBeside, noted, stageAt};
-ghost use Rattle.lease.specs.Books.{leaseOf, bookOf};
+ghost use Rattle.lease.specs.Leases.{holds, isAt, allAt, noted};
+ghost use Rattle.lease.specs.Books.{leaseOf, bookOf, newestOf};
 use super::kinds::Book;
 use super::kinds::Lease;
 use stage::INDEXES;
@@ -35,7 +33,7 @@ fn holds(leases: &[Lease], long: u64, reading: u64, office: u8, stages: &[Stage;
 /// Whether a lease is over, or of that stage of an index.
 fn is_at(lease: &Lease, long: u64, reading: u64, index: usize, stage: Stage) -> bool
     requires { ⌜ index < 8 ⌝ }
-    ensures { λ r. ⌜ r ≡ not (runs long reading (leaseOf (now (lease .entry)))) || eqb (stageAt (ranks (now (lease .entry) .stages)) index) (rank stage) ⌝ }
+    ensures { λ r. ⌜ r ≡ isAt long reading index (rank stage) (leaseOf (now (lease .entry))) ⌝ }
 {
     !lease.runs(long, reading) || lease.stages[index].number() == stage.number()
 }
@@ -71,6 +69,18 @@ fn with_lease(
         }
     }
     Ok(book)
+}
+
+/// The stages of an office's newest lease.
+fn newest(leases: &[Lease], office: u8) -> Option<[Stage; INDEXES]>
+    ensures { λ r. ⌜ mapped ranks r ≡ newestOf office (bookOf (now (leases .entry))) ⌝ }
+{
+    for lease in leases {
+        if lease.office == office {
+            return Some(lease.stages);
+        }
+    }
+    None
 }
 
 impl Book {
@@ -110,5 +120,12 @@ impl Book {
             index.number() as usize,
             stage,
         )
+    }
+
+    /// The stages of the newest lease that is noted for an office.
+    pub fn newest(&self, office: u8) -> Option<[Stage; INDEXES]>
+        ensures { λ r. ⌜ mapped ranks r ≡ newestOf office (bookOf (vec-items (now (self .entry) .leases))) ⌝ }
+    {
+        newest(self.leases.as_slice(), office)
     }
 }

@@ -1,27 +1,27 @@
 //! Leases: who acts on which stages, and for how long.
 
 ghost use mathlib.Core.Path.{_≡_};
-ghost use mathlib.Core.Bool.{Bool, true, false, cond, not, _&&_, _||_};
-ghost use mathlib.Core.List.{List, [], _∷_, map};
 ghost use Prim.Native.Nat.{ℕ, _+_, _-_, _<_, _≤_};
-ghost use lib.ListN.{length, getD};
-ghost use lib.Dec.{eqb, ltb};
-ghost use Rattle.std.specs.Of.Vec.{vec-items};
-ghost use Rattle.std.specs.Vec.{made};
-ghost use Rattle.std.specs.Results.{Cases};
-ghost use Rattle.stage.specs.Stages.{rank, ranks};
-ghost use Rattle.lease.specs.Leases.{runs, sameList, isOf, holds, allAt, stays, leftBeside, noted, stageAt};
-ghost use Rattle.lease.specs.Books.{leaseOf, bookOf};
+ghost use Rattle.stage.specs.Stages.{ranks};
+ghost use Rattle.lease.specs.Leases.{runs, sameList, isOf, stands, stays};
+ghost use Rattle.lease.specs.Books.{leaseOf};
 use stage::INDEXES;
 use stage::Stage;
-use std::alloc::AllocError;
-use std::alloc::Global;
 
 mod book;
 mod kinds;
+mod office;
+mod theorems;
+mod times;
 
 pub use kinds::Book;
 pub use kinds::Lease;
+pub use office::Desk;
+pub use office::Grant;
+pub use theorems::book_small;
+pub use theorems::book_tells;
+pub use theorems::clock_law;
+pub use times::Times;
 
 /// Whether these are the same stages.
 fn same(a: &[Stage; INDEXES], b: &[Stage; INDEXES]) -> bool
@@ -52,7 +52,7 @@ impl Lease {
 
     /// Whether the lease runs, and is of that office and these stages.
     fn stands(&self, long: u64, reading: u64, office: u8, stages: &[Stage; INDEXES]) -> bool
-        ensures { λ r. ⌜ r ≡ runs long reading (leaseOf (now (self .entry))) && isOf office (ranks (now (stages .entry))) (leaseOf (now (self .entry))) ⌝ }
+        ensures { λ r. ⌜ r ≡ stands long reading office (ranks (now (stages .entry))) (leaseOf (now (self .entry))) ⌝ }
     {
         self.runs(long, reading) && self.is_of(office, stages)
     }
@@ -64,3 +64,4 @@ impl Lease {
         self.runs(long, new.since) && !self.is_of(new.office, &new.stages)
     }
 }
+
