@@ -8,3 +8,4 @@ pub mod Promises
 pub mod Witness
 pub mod Claims
 pub mod Done
+pub mod Runs

@@ -18,7 +18,7 @@ use Rattle.service.specs.declared.kinds.Call.{Call}
 use Rattle.service.specs.declared.kinds.Call.the-variants.{Write, TakeAway, Read, Look, Loan, Make, Raise, Turn, Lower, Fill, Clear, ByAllRows}
 use Rattle.service.specs.declared.kinds.Answer.{Answer}
 use Rattle.service.specs.declared.kinds.Answer.the-variants.{Done, Row, Keys, Lent, Turned, Refused}
-use Rattle.service.specs.declared.owner.Store.{Store}
+use Rattle.service.specs.declared.owner.State.{State}
 use Rattle.service.specs.Calls as calls
 use Rattle.service.specs.Calls.{Limits, write, takeAway, read, look, loan, make, raise, turn, lower, fill, clear, byAllRows, ok, thereIs, found, lent, turnedBack, refused}
 
@@ -27,7 +27,7 @@ abbrev pub limits : (long : ℕ) → Limits
 limits long = record { keys = 4096; indexes = 8; columns = 8; offices = 64; long = long }
 
 -- the store
-abbrev pub storeOf : Store → calls.Store
+abbrev pub storeOf : State → calls.Store
 storeOf s = record { register = registerOf (s .register); leases = bookOf (vec-items (s .book .leases)) }
 
 -- a claim

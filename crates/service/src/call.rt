@@ -2,7 +2,7 @@
 
 ghost use mathlib.Core.Path.{_≡_};
 ghost use mathlib.Core.Bool.{Bool, true, false, cond, not, _&&_, _||_};
-ghost use Prim.Native.Nat.{ℕ, _+_, _<_, _≤_, max};
+ghost use Prim.Native.Nat.{ℕ, _+_, _<_, _≤_};
 ghost use Rattle.std.specs.declared.option.Option.the-variants.{Some, None};
 ghost use Rattle.std.specs.Of.Vec.{vec-items};
 ghost use Rattle.std.specs.Vec.{made as ifMade};
@@ -15,19 +15,18 @@ ghost use Rattle.service.specs.Held.{limits, storeOf, claimOf, callOf, answerO
 use super::decide::OFFICES;
 use super::kinds::Answer;
 use super::kinds::Call;
-use super::owner::Store;
+use super::owner::State;
 use super::pending::Pending;
 use lease::Lease;
 use register::Record;
 use std::alloc::AllocError;
 use std::alloc::Global;
 
-impl Store {
+impl State {
     /// Notes the lease that an office is told.
     fn note(&mut self, heap: Global, reading: u64, office: u8) -> Result<(), AllocError>
         ensures register { λ _. ⌜ now (self .exit) .register ≡ now (self .entry) .register ⌝ }
         ensures long { λ _. ⌜ now (self .exit) .long ≡ now (self .entry) .long ⌝ }
-        ensures clock { λ _. ⌜ now (self .exit) .clock ≡ now (self .entry) .clock ⌝ }
         ensures book { λ r. ⌜ Cases r (λ _. bookOf (vec-items (now (self .exit) .book .leases)) ≡ noted (now (self .entry) .long) (leaseFor (limits (now (self .entry) .long)) (storeOf (now (self .entry))) reading office) (bookOf (vec-items (now (self .entry) .book .leases)))) (λ _. now (self .exit) .book ≡ now (self .entry) .book) ⌝ }
     {
         let lease = Lease { office, stages: self.register.stages(), since: reading };
@@ -39,7 +38,6 @@ impl Store {
     fn lend(&mut self, heap: Global, reading: u64, call: &Call) -> Result<(), AllocError>
         ensures register { λ _. ⌜ now (self .exit) .register ≡ now (self .entry) .register ⌝ }
         ensures long { λ _. ⌜ now (self .exit) .long ≡ now (self .entry) .long ⌝ }
-        ensures clock { λ _. ⌜ now (self .exit) .clock ≡ now (self .entry) .clock ⌝ }
         ensures book { λ r. ⌜ Cases r (λ _. bookOf (vec-items (now (self .exit) .book .leases)) ≡ leasesAfter (limits (now (self .entry) .long)) (storeOf (now (self .entry))) reading (callOf (now (call .entry)))) (λ _. now (self .exit) .book ≡ now (self .entry) .book) ⌝ }
     {
         match *call {
@@ -55,7 +53,6 @@ impl Store {
     fn carry_out(&mut self, what: Option<Record>)
         ensures book { λ _. ⌜ now (self .exit) .book ≡ now (self .entry) .book ⌝ }
         ensures long { λ _. ⌜ now (self .exit) .long ≡ now (self .entry) .long ⌝ }
-        ensures clock { λ _. ⌜ now (self .exit) .clock ≡ now (self .entry) .clock ⌝ }
         ensures register { λ _. ⌜ Carried (recordIn what) (registerOf (now (self .entry) .register)) (registerOf (now (self .exit) .register)) ⌝ }
     {
         if let Some(record) = what {
@@ -63,22 +60,10 @@ impl Store {
         }
     }
 
-    /// The clock's reading; one below an earlier one counts as the earlier one.
-    fn tick(&mut self, reading: u64) -> u64
-        ensures reading { λ r. ⌜ r ≡ max (now (self .entry) .clock) reading ⌝ }
-        ensures clock { λ r. ⌜ now (self .exit) .clock ≡ r ⌝ }
-        ensures long { λ _. ⌜ now (self .exit) .long ≡ now (self .entry) .long ⌝ }
-        ensures store { λ _. ⌜ (now (self .exit) .register ≡ now (self .entry) .register) × (now (self .exit) .book ≡ now (self .entry) .book) ⌝ }
-    {
-        self.clock = self.clock.max(reading);
-        self.clock
-    }
-
     /// A call that is not refused.
     fn grant(&mut self, heap: Global, reading: u64, call: Call) -> Result<Pending, AllocError>
         requires { ⌜ whyNot (limits (now self .long)) (storeOf (now self)) reading (callOf call) ≡ None ⌝ }
         ensures long { λ _. ⌜ now (self .exit) .long ≡ now (self .entry) .long ⌝ }
-        ensures clock { λ _. ⌜ now (self .exit) .clock ≡ now (self .entry) .clock ⌝ }
         ensures called { λ r. ⌜ Cases r (λ p. Called (now (self .entry) .long) (storeOf (now (self .entry))) (storeOf (now (self .exit))) reading call (p .answer) (p .what)) (λ _. storeOf (now (self .exit)) ≡ storeOf (now (self .entry))) ⌝ }
     {
         let (answer, what) = self.granted(heap, reading, &call)?;
@@ -87,14 +72,11 @@ impl Store {
         Ok(Pending { answer, what })
     }
 
-    /// A call comes at a reading of the clock: it is decided and done. Its answer waits in the [`Pending`] until its
-    /// record is in the journal.
-    pub fn call(&mut self, heap: Global, reading: u64, call: Call) -> Result<Pending, AllocError>
+    /// A call comes at a reading of the clock: it is decided and done.
+    pub(super) fn call(&mut self, heap: Global, reading: u64, call: Call) -> Result<Pending, AllocError>
         ensures long { λ _. ⌜ now (self .exit) .long ≡ now (self .entry) .long ⌝ }
-        ensures clock { λ _. ⌜ now (self .exit) .clock ≡ max (now (self .entry) .clock) reading ⌝ }
-        ensures called { λ r. ⌜ Cases r (λ p. Called (now (self .entry) .long) (storeOf (now (self .entry))) (storeOf (now (self .exit))) (max (now (self .entry) .clock) reading) call (p .answer) (p .what)) (λ _. storeOf (now (self .exit)) ≡ storeOf (now (self .entry))) ⌝ }
+        ensures called { λ r. ⌜ Cases r (λ p. Called (now (self .entry) .long) (storeOf (now (self .entry))) (storeOf (now (self .exit))) reading call (p .answer) (p .what)) (λ _. storeOf (now (self .exit)) ≡ storeOf (now (self .entry))) ⌝ }
     {
-        let reading = self.tick(reading);
         match self.why_not(reading, &call) {
             Some(refusal) => Ok(Pending { answer: Answer::Refused(refusal), what: None }),
             None => {

@@ -15,7 +15,7 @@ ghost use Rattle.service.specs.Calls.{whyNot, noLease, alone, unlessQuiet, wri
 ghost use Rattle.service.specs.Held.{limits, storeOf, claimOf, callOf};
 use super::kinds::Call;
 use super::kinds::Claim;
-use super::owner::Store;
+use super::owner::State;
 use change::Index;
 use change::Refusal;
 use keyset::Key;
@@ -28,7 +28,7 @@ use table::Row;
 /// How many offices there are.
 pub(super) const OFFICES: u8 = 64;
 
-impl Store {
+impl State {
     /// Whether an office has no running lease of this epoch and these stages.
     fn no_lease(&self, reading: u64, office: u8, claim: &Claim) -> bool
         ensures { λ r. ⌜ r ≡ noLease (limits (now (self .entry) .long)) (storeOf (now (self .entry))) reading office (claimOf (now (claim .entry))) ⌝ }

@@ -16,7 +16,7 @@ ghost use Rattle.service.specs.Held.{limits, storeOf, claimOf, callOf, answerO
 use super::kinds::Answer;
 use super::kinds::Call;
 use super::kinds::Claim;
-use super::owner::Store;
+use super::owner::State;
 use change::Refusal;
 use keyset::Key;
 use register::Record;
@@ -24,7 +24,7 @@ use stage::Slot;
 use std::alloc::AllocError;
 use std::alloc::Global;
 
-impl Store {
+impl State {
     fn read(&self, reading: u64, office: u8, key: Key) -> Answer
         ensures { λ r. ⌜ answerOf r ≡ granted (limits (now (self .entry) .long)) (storeOf (now (self .entry))) reading (read office (key .number)) ⌝ }
     {

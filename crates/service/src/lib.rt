@@ -6,9 +6,11 @@ mod grant;
 mod kinds;
 mod owner;
 mod pending;
+mod serve;
+mod store;
 
 pub use kinds::Answer;
 pub use kinds::Call;
 pub use kinds::Claim;
-pub use owner::Store;
 pub use pending::Pending;
+pub use store::Store;

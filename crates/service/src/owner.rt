@@ -1,13 +1,12 @@
-//! The store.
+//! What calls are done to.
 
 use lease::Book;
 use register::Register;
 
-/// The register, the book of leases, the last reading of the clock, and how long a lease runs.
+/// The register, the book of leases, and how long a lease runs.
 #[derive(Drop)]
-pub struct Store {
+pub struct State {
     pub(super) register: Register,
     pub(super) book: Book,
-    pub(super) clock: u64,
     pub(super) long: u64,
 }

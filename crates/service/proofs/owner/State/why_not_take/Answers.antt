@@ -1,7 +1,7 @@
 use native.Mathlib.Omega.{arith}
 use Rattle.std.proofs.shelf.Ways.{tells}
 use Rattle.service.proofs.Claims.{is-claim}
-use Rattle.service.proofs.owner.Store.why_not_take.Needs as need
+use Rattle.service.proofs.owner.State.why_not_take.Needs as need
 
 pub returns-then-no-lease : need.returns-then-no-lease
 returns-then-no-lease c =

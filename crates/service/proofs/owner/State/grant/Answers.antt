@@ -6,7 +6,7 @@ use Rattle.lease.specs.Books.{bookOf}
 use Rattle.service.specs.Calls.{answerBy, recordBy, granted, recordOf}
 use Rattle.service.specs.Held.{limits, storeOf, callOf, recordIn, Carried}
 use Rattle.service.proofs.Done.{did, heads-beyond}
-use Rattle.service.proofs.owner.Store.grant.Needs as need
+use Rattle.service.proofs.owner.State.grant.Needs as need
 
 pub returns : need.returns
 returns c =
@@ -14,7 +14,6 @@ returns c =
     let (answers, writes) = c .in-Continue-answer .ensures tt in
     record {
       long = c .carry-out .ensures .long ∙ c .lend .ensures .long;
-      clock = c .carry-out .ensures .clock ∙ c .lend .ensures .clock;
       called = record {
         answers = answers ∙ sym (ap (λ w. answerBy w (granted (limits (s .long)) (storeOf s) (c .args .reading) (callOf (c .args .call)))) (c .pre));
         writes = writes ∙ sym (ap (λ w. recordBy w (recordOf (limits (s .long)) (storeOf s) (c .args .reading) (callOf (c .args .call)))) (c .pre));

@@ -4,7 +4,7 @@ use Rattle.change.specs.Protocol.{whyNotDown}
 use Rattle.service.specs.Calls.{unlessQuiet}
 use Rattle.service.specs.Held.{limits, storeOf}
 use Rattle.service.proofs.Claims.{in-range}
-use Rattle.service.proofs.owner.Store.why_not_lower.Needs as need
+use Rattle.service.proofs.owner.State.why_not_lower.Needs as need
 
 pub returns : need.returns
 returns c =

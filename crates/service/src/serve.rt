@@ -1,0 +1,47 @@
+//! The calls of the store.
+
+ghost use mathlib.Core.Path.{_≡_};
+ghost use mathlib.Core.List.{List, []};
+ghost use Prim.Native.Nat.{ℕ, _+_, _<_, _≤_, max};
+ghost use Rattle.std.specs.Vec.{made as ifMade};
+ghost use Rattle.std.specs.Results.{Cases};
+ghost use Rattle.table.specs.Update.{keysFor};
+ghost use Rattle.register.specs.Registers.{bare, applied, cameUp, rowsOf};
+ghost use Rattle.service.specs.Calls.{Claim as Claimed, look, found};
+ghost use Rattle.service.specs.Held.{storeOf, callOf, answerOf, Called};
+ghost use Rattle.service.specs.Reached.{HasPromises};
+use super::kinds::Call;
+use super::owner::State;
+use super::pending::Pending;
+use super::store::Store;
+use lease::Book;
+use lease::Times;
+use register::Record;
+use register::Register;
+use std::alloc::AllocError;
+use std::alloc::Global;
+
+impl Store {
+    /// Everything that is promised of every run is promised of this store, whatever clocks the offices have.
+    pub fn promised(&self) -> u64
+        ensures reading { λ r. ⌜ r ≡ now (self .entry) .clock ⌝ }
+        ensures promises { λ _. ⌜ HasPromises (now (self .entry) .times .long) (now (self .entry) .times .short) (now (self .entry) .times .rate) (storeOf (now (self .entry) .state)) (now (self .entry) .clock) ⌝ }
+    {
+        self.clock
+    }
+
+    /// A call comes at a reading of the clock; one below an earlier one counts as the earlier one. The call is decided
+    /// and done, and its answer waits in the [`Pending`] until its record is in the journal. What a look by an index
+    /// finds is what a look through all rows finds.
+    pub fn call(&mut self, heap: Global, reading: u64, call: Call) -> Result<Pending, AllocError>
+        ensures clock { λ _. ⌜ now (self .exit) .clock ≡ max (now (self .entry) .clock) reading ⌝ }
+        ensures times { λ _. ⌜ now (self .exit) .times ≡ now (self .entry) .times ⌝ }
+        ensures called { λ r. ⌜ Cases r (λ p. Called (now (self .entry) .times .long) (storeOf (now (self .entry) .state)) (storeOf (now (self .exit) .state)) (max (now (self .entry) .clock) reading) call (p .answer) (p .what)) (λ _. storeOf (now (self .exit) .state) ≡ storeOf (now (self .entry) .state)) ⌝ }
+        ensures looks { λ r. ⌜ ifMade r (λ p. (o : ℕ) (c : Claimed) (i v : ℕ) (ks : List ℕ) → callOf call ≡ look o c i v → answerOf (p .answer) ≡ found ks → ks ≡ keysFor 4096 (rowsOf i (storeOf (now (self .entry) .state) .register)) v) ⌝ }
+    {
+        let reading = self.clock.max(reading);
+        let pending = self.state.call(heap, reading, call);
+        self.clock = reading;
+        pending
+    }
+}
