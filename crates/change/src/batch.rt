@@ -117,7 +117,13 @@ pub fn why_not_clear(head: Index, alone: bool) -> Option<Refusal>
 }
 
 /// Backfill over the next `count` keys, up to one whose value is taken in a unique index: the change then turns.
-pub fn fill(head: Index, alone: bool, rows: &Rows, entries: &mut Entries, count: u16) -> Result<Index, Refusal>
+pub fn fill(
+    head: Index,
+    alone: bool,
+    rows: &Rows,
+    entries: &mut Entries,
+    count: u16,
+) -> Result<Index, Refusal>
     ensures { λ r. ⌜ Worked r (whyNotFill 4096 alone (headOf head)) (entryOf (now (entries .entry))) (entryOf (now (entries .exit))) (filledN 4096 (λ k. valueIn (head .column .number) (rowOf (now (rows .entry)) k)) count (workOn head (entryOf (now (entries .entry))))) ⌝ }
 {
     match why_not_fill(head, alone) {

@@ -64,4 +64,3 @@ impl Lease {
         self.runs(long, new.since) && !self.is_of(new.office, &new.stages)
     }
 }
-

@@ -5,7 +5,9 @@ mod kinds;
 mod owner;
 mod reads;
 mod steps;
+mod theorems;
 mod work;
 
 pub use kinds::Record;
 pub use owner::Register;
+pub use theorems::replays_in_order;

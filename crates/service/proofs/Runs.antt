@@ -1,7 +1,7 @@
 -- Running stores go on, and have the promises.
 use mathlib.Core.Path.{_≡_, refl, sym, _∙_, ap, ap₂, subst}
 use mathlib.Core.Logic.{∥∥₁-elim, ∥∥₁-map}
-use mathlib.Core.Bool.{true}
+use mathlib.Core.Bool.{true, true≢false}
 use mathlib.Core.List.{List, [], _∷_, List·isSet}
 use Prim.Native.Nat.{ℕ, zero, suc, _+_, _-_, _*_, _<_, _≤_}
 use native.Mathlib.Omega.{arith}
@@ -12,7 +12,7 @@ use Rattle.std.specs.declared.result.Result.the-variants.{Ok, Err}
 use Rattle.std.specs.declared.alloc.AllocError.{AllocError}
 use Rattle.std.specs.Results.{Cases}
 use Rattle.std.specs.Vec.{made}
-use Rattle.register.specs.Held.{registerOf}
+use Rattle.register.specs.Held.{registerOf, canDo, Applied}
 use Rattle.lease.specs.Clocks.{Times, Counts, Fit, Fits}
 use Rattle.register.specs.Registers.{Register, bare, applied, cameUp, replayed, rowsOf}
 use Rattle.table.specs.Update.{keysFor}
@@ -29,10 +29,10 @@ use Rattle.service.proofs.Promises as promises
 -- a clock that counts exactly
 exact : (short rate since : ℕ) → Counts (timesOf short rate) since (λ t. t - since)
 exact short rate since = record {
-    rises = λ a b h k. omega arith;
-    notFast = λ a b h k. let d = add-mul 1000000 rate (b - a) in omega arith;
-    notSlow = λ a b h k. let d : (1000000 - rate) * (b - a) ≤ 1000000 * (b - a) = mul-le-mul-right (b - a) (omega arith) in omega arith;
-  }
+  rises = λ a b h k. omega arith;
+  notFast = λ a b h k. let d = add-mul 1000000 rate (b - a) in omega arith;
+  notSlow = λ a b h k. let d : (1000000 - rate) * (b - a) ≤ 1000000 * (b - a) = mul-le-mul-right (b - a) (omega arith) in omega arith;
+}
 
 module _ (long short rate : ℕ) where
   abbrev at : List Event → World
@@ -42,27 +42,27 @@ module _ (long short rate : ℕ) where
   pub first-up : Reached long short rate (record { register = applied cameUp bare; leases = [] }) 0
   unfolding after-all replayed
   first-up = record {
-      events = comesUp (λ t. t - 0) ∷ [];
-      possible = one-more (comesUp (λ t. t - 0)) [] none-yet (refl, exact short rate 0, refl);
-      up = refl;
-      store = refl;
-      since = 0;
-      clock = refl;
-      moment = refl;
-    }
+    events = comesUp (λ t. t - 0) ∷ [];
+    possible = one-more (comesUp (λ t. t - 0)) [] none-yet (refl, exact short rate 0, refl);
+    up = refl;
+    store = refl;
+    since = 0;
+    clock = refl;
+    moment = refl;
+  }
 
   -- time passes
   pub later : (s : Store) (n m : ℕ) → n ≤ m → Reached long short rate s n → Reached long short rate s m
   unfolding after-all
   later s n m h r = record {
-      events = passes (m - n) ∷ r .events;
-      possible = one-more (passes (m - n)) (r .events) (r .possible) tt;
-      up = r .up;
-      store = r .store;
-      since = r .since;
-      clock = r .clock;
-      moment = let e = r .moment in omega arith;
-    }
+    events = passes (m - n) ∷ r .events;
+    possible = one-more (passes (m - n)) (r .events) (r .possible) tt;
+    up = r .up;
+    store = r .store;
+    since = r .since;
+    clock = r .clock;
+    moment = let e = r .moment in omega arith;
+  }
 
   shows : (s : Store) (n : ℕ) (r : Reached long short rate s n) → at (r .events) .clock (at (r .events) .moment) ≡ n
   shows s n r = ap (λ (f : ℕ → ℕ). f (at (r .events) .moment)) (r .clock) ∙ (let e = r .moment in omega arith)
@@ -104,7 +104,7 @@ module _ (long short rate : ℕ) where
       let promise = promises.keeps (limits long) (timesOf short rate) (λ o t. t - 0) (fit f) (λ o. exact short rate 0) (x .events) (x .possible) .0 in
       let same : says w ≡ s .register = sym (promise .lasts (x .up)) ∙ ap (λ (z : Store). z .register) (x .store) in
       let q : answered (limits long) (w .store) (w .clock (w .moment)) (look o c i v) ≡ found ks =
-          ap₂ (λ z t. answered (limits long) z t (look o c i v)) (x .store) (shows s n x) ∙ e in
+      ap₂ (λ z t. answered (limits long) z t (look o c i v)) (x .store) (shows s n x) ∙ e in
       promise .answers (x .up) .looking o c i v ks q ∙ ap (λ (z : Register). keysFor 4096 (rowsOf i z) v) same)
 
 -- a call of the code's own, at a later reading
@@ -122,3 +122,8 @@ module _ (long short rate : ℕ) (fits : Fits long short rate) (x y : State) (sa
       let a : answerOf (p .answer) ≡ answered (limits long) (storeOf x) t (callOf call) = subst (λ l. answerOf (p .answer) ≡ answered (limits l) (storeOf x) t (callOf call)) same (d .answers) in
       looks long short rate fits (storeOf x) t (waited long short rate (storeOf x) (storeOf x) n t h refl reached) o c i v ks (ap (answered (limits long) (storeOf x) t) (sym is) ∙ sym a ∙ e)
   finds (Err e) d = tt
+
+-- an empty register comes up
+pub came-up : {X Y : Type 0} (r : Result X Y) (R S : Register) → R ≡ bare → Applied r cameUp R S → S ≡ applied cameUp bare
+came-up (Ok u) R S e (can, did) = did ∙ ap (applied cameUp) e
+came-up (Err u) R S e (cannot, same) = absurd (true≢false (sym (ap (canDo cameUp) e) ∙ cannot))

@@ -10,7 +10,7 @@ use Rattle.stage.specs.Stages.{ranks}
 use Rattle.change.specs.Heads.{numberOf}
 use Rattle.register.specs.declared.kinds.Record as codes
 use Rattle.register.specs.Registers as rules
-use Rattle.register.specs.Held.{registerOf} 
+use Rattle.register.specs.Held.{registerOf}
 use Rattle.register.specs.Held as held
 use Rattle.lease.specs.Books.{bookOf}
 use Rattle.service.specs.declared.kinds.Claim.{Claim}

@@ -4,3 +4,4 @@ pub mod Promise
 pub mod Examples
 pub mod Held
 pub mod Reached
+pub mod Log

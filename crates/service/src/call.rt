@@ -29,7 +29,11 @@ impl State {
         ensures long { λ _. ⌜ now (self .exit) .long ≡ now (self .entry) .long ⌝ }
         ensures book { λ r. ⌜ Cases r (λ _. bookOf (vec-items (now (self .exit) .book .leases)) ≡ noted (now (self .entry) .long) (leaseFor (limits (now (self .entry) .long)) (storeOf (now (self .entry))) reading office) (bookOf (vec-items (now (self .entry) .book .leases)))) (λ _. now (self .exit) .book ≡ now (self .entry) .book) ⌝ }
     {
-        let lease = Lease { office, stages: self.register.stages(), since: reading };
+        let lease = Lease {
+            office,
+            stages: self.register.stages(),
+            since: reading,
+        };
         self.book.note(heap, self.long, lease)?;
         Ok(())
     }
@@ -73,12 +77,20 @@ impl State {
     }
 
     /// A call comes at a reading of the clock: it is decided and done.
-    pub(super) fn call(&mut self, heap: Global, reading: u64, call: Call) -> Result<Pending, AllocError>
+    pub(super) fn call(
+        &mut self,
+        heap: Global,
+        reading: u64,
+        call: Call,
+    ) -> Result<Pending, AllocError>
         ensures long { λ _. ⌜ now (self .exit) .long ≡ now (self .entry) .long ⌝ }
         ensures called { λ r. ⌜ Cases r (λ p. Called (now (self .entry) .long) (storeOf (now (self .entry))) (storeOf (now (self .exit))) reading call (p .answer) (p .what)) (λ _. storeOf (now (self .exit)) ≡ storeOf (now (self .entry))) ⌝ }
     {
         match self.why_not(reading, &call) {
-            Some(refusal) => Ok(Pending { answer: Answer::Refused(refusal), what: None }),
+            Some(refusal) => Ok(Pending {
+                answer: Answer::Refused(refusal),
+                what: None,
+            }),
             None => {
                 let pending = self.grant(heap, reading, call)?;
                 Ok(pending)

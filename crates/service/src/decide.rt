@@ -33,7 +33,8 @@ impl State {
     fn no_lease(&self, reading: u64, office: u8, claim: &Claim) -> bool
         ensures { λ r. ⌜ r ≡ noLease (limits (now (self .entry) .long)) (storeOf (now (self .entry))) reading office (claimOf (now (claim .entry))) ⌝ }
     {
-        claim.epoch != self.register.epoch() || !self.book.holds(self.long, reading, office, &claim.stages)
+        claim.epoch != self.register.epoch()
+            || !self.book.holds(self.long, reading, office, &claim.stages)
     }
 
     /// Whether every running lease is of the index's own stage.
@@ -58,7 +59,14 @@ impl State {
         }
     }
 
-    fn why_not_write(&self, reading: u64, office: u8, claim: &Claim, key: Key, row: Row) -> Option<Refusal>
+    fn why_not_write(
+        &self,
+        reading: u64,
+        office: u8,
+        claim: &Claim,
+        key: Key,
+        row: Row,
+    ) -> Option<Refusal>
         ensures { λ r. ⌜ numbered r ≡ whyNot (limits (now (self .entry) .long)) (storeOf (now (self .entry))) reading (write office (claimOf (now (claim .entry))) (key .number) row) ⌝ }
     {
         if office >= OFFICES {
@@ -104,7 +112,14 @@ impl State {
         self.why_no_row(key)
     }
 
-    fn why_not_look(&self, reading: u64, office: u8, claim: &Claim, index: Slot, value: u32) -> Option<Refusal>
+    fn why_not_look(
+        &self,
+        reading: u64,
+        office: u8,
+        claim: &Claim,
+        index: Slot,
+        value: u32,
+    ) -> Option<Refusal>
         ensures { λ r. ⌜ numbered r ≡ whyNot (limits (now (self .entry) .long)) (storeOf (now (self .entry))) reading (look office (claimOf (now (claim .entry))) (index .number) value) ⌝ }
     {
         if office >= OFFICES {
@@ -154,7 +169,13 @@ impl State {
         self.unless_quiet(reading, why)
     }
 
-    fn why_not_make(&self, reading: u64, index: Slot, column: Column, unique: bool) -> Option<Refusal>
+    fn why_not_make(
+        &self,
+        reading: u64,
+        index: Slot,
+        column: Column,
+        unique: bool,
+    ) -> Option<Refusal>
         ensures { λ r. ⌜ numbered r ≡ whyNot (limits (now (self .entry) .long)) (storeOf (now (self .entry))) reading (make (index .number) (column .number) unique) ⌝ }
     {
         match self.register.head(index) {
@@ -175,7 +196,11 @@ impl State {
     fn why_not_lend(&self, reading: u64, office: u8) -> Option<Refusal>
         ensures { λ r. ⌜ numbered r ≡ whyNot (limits (now (self .entry) .long)) (storeOf (now (self .entry))) reading (loan office) ⌝ }
     {
-        if office < OFFICES { None } else { Some(Refusal::OutOfRange) }
+        if office < OFFICES {
+            None
+        } else {
+            Some(Refusal::OutOfRange)
+        }
     }
 
     /// By which refusal a call is turned away, if it is.
@@ -183,10 +208,22 @@ impl State {
         ensures { λ r. ⌜ numbered r ≡ whyNot (limits (now (self .entry) .long)) (storeOf (now (self .entry))) reading (callOf (now (call .entry))) ⌝ }
     {
         match *call {
-            Call::Write(office, claim, key, row) => self.why_not_write(reading, office, &claim, key, row),
+            Call::Write(office, claim, key, row) => self.why_not_write(
+                reading,
+                office,
+                &claim,
+                key,
+                row,
+            ),
             Call::TakeAway(office, claim, key) => self.why_not_take(reading, office, &claim, key),
             Call::Read(office, key) => self.why_not_read(reading, office, key),
-            Call::Look(office, claim, index, value) => self.why_not_look(reading, office, &claim, index, value),
+            Call::Look(office, claim, index, value) => self.why_not_look(
+                reading,
+                office,
+                &claim,
+                index,
+                value,
+            ),
             Call::Loan(office) => self.why_not_lend(reading, office),
             Call::Make(index, column, unique) => self.why_not_make(reading, index, column, unique),
             Call::Raise(index) => self.why_not_raise(reading, index),

@@ -34,14 +34,28 @@ impl State {
         }
     }
 
-    fn look(&self, heap: Global, reading: u64, office: u8, claim: &Claim, index: Slot, value: u32) -> Result<Answer, AllocError>
+    fn look(
+        &self,
+        heap: Global,
+        reading: u64,
+        office: u8,
+        claim: &Claim,
+        index: Slot,
+        value: u32,
+    ) -> Result<Answer, AllocError>
         ensures { λ r. ⌜ ifMade r (λ a. answerOf a ≡ granted (limits (now (self .entry) .long)) (storeOf (now (self .entry))) reading (look office (claimOf (now (claim .entry))) (index .number) value)) ⌝ }
     {
         let keys = self.register.keys_by_index(heap, index, value)?;
         Ok(Answer::Keys(keys))
     }
 
-    fn by_rows(&self, heap: Global, reading: u64, index: Slot, value: u32) -> Result<Answer, AllocError>
+    fn by_rows(
+        &self,
+        heap: Global,
+        reading: u64,
+        index: Slot,
+        value: u32,
+    ) -> Result<Answer, AllocError>
         requires { ⌜ whyNot (limits (now self .long)) (storeOf (now self)) reading (byAllRows (index .number) value) ≡ None ⌝ }
         ensures { λ r. ⌜ ifMade r (λ a. answerOf a ≡ granted (limits (now (self .entry) .long)) (storeOf (now (self .entry))) reading (byAllRows (index .number) value)) ⌝ }
     {
@@ -56,7 +70,10 @@ impl State {
     fn claim(&self) -> Claim
         ensures { λ r. ⌜ claimOf r ≡ record { epoch = registerOf (now (self .entry) .register) .epoch; stages = stagesNow 8 (registerOf (now (self .entry) .register)) } ⌝ }
     {
-        Claim { epoch: self.register.epoch(), stages: self.register.stages() }
+        Claim {
+            epoch: self.register.epoch(),
+            stages: self.register.stages(),
+        }
     }
 
     fn fill(&self, reading: u64, index: Slot) -> (Answer, Option<Record>)
@@ -92,20 +109,34 @@ impl State {
     }
 
     /// What is answered to a call that is not refused, and the record that is written for it.
-    pub(super) fn granted(&self, heap: Global, reading: u64, call: &Call) -> Result<(Answer, Option<Record>), AllocError>
+    pub(super) fn granted(
+        &self,
+        heap: Global,
+        reading: u64,
+        call: &Call,
+    ) -> Result<(Answer, Option<Record>), AllocError>
         requires { ⌜ whyNot (limits (now self .long)) (storeOf (now self)) reading (callOf (now call)) ≡ None ⌝ }
         ensures { λ r. ⌜ ifMade r (λ p. (answerOf (p .0) ≡ granted (limits (now (self .entry) .long)) (storeOf (now (self .entry))) reading (callOf (now (call .entry)))) × (recordIn (p .1) ≡ recordOf (limits (now (self .entry) .long)) (storeOf (now (self .entry))) reading (callOf (now (call .entry))))) ⌝ }
     {
         match *call {
-            Call::Write(_, claim, key, row) => Ok((Answer::Done, Some(Record::Put(key, row, claim.stages)))),
-            Call::TakeAway(_, claim, key) => Ok((Answer::Done, Some(Record::Removed(key, claim.stages)))),
+            Call::Write(_, claim, key, row) => Ok((
+                Answer::Done,
+                Some(Record::Put(key, row, claim.stages)),
+            )),
+            Call::TakeAway(_, claim, key) => Ok((
+                Answer::Done,
+                Some(Record::Removed(key, claim.stages)),
+            )),
             Call::Read(office, key) => Ok((self.read(reading, office, key), None)),
             Call::Look(office, claim, index, value) => {
                 let answer = self.look(heap, reading, office, &claim, index, value)?;
                 Ok((answer, None))
             }
             Call::Loan(_) => Ok((Answer::Lent(self.claim()), None)),
-            Call::Make(index, column, unique) => Ok((Answer::Done, Some(Record::Made(index, column, unique)))),
+            Call::Make(index, column, unique) => Ok((
+                Answer::Done,
+                Some(Record::Made(index, column, unique)),
+            )),
             Call::Raise(index) => Ok((Answer::Done, Some(Record::WentUp(index)))),
             Call::Turn(index) => Ok((Answer::Done, Some(Record::Turned(index)))),
             Call::Lower(index) => Ok((Answer::Done, Some(Record::WentDown(index)))),

@@ -3,6 +3,7 @@
 ghost use mathlib.Core.Path.{_≡_};
 ghost use mathlib.Core.List.{List, []};
 ghost use Prim.Native.Nat.{ℕ, _+_, _<_, _≤_, max};
+ghost use Rattle.std.specs.declared.option.Option.the-variants.{Some};
 ghost use Rattle.std.specs.Vec.{made as ifMade};
 ghost use Rattle.std.specs.Results.{Cases};
 ghost use Rattle.table.specs.Update.{keysFor};
@@ -10,6 +11,7 @@ ghost use Rattle.register.specs.Registers.{bare, applied, cameUp, rowsOf};
 ghost use Rattle.service.specs.Calls.{Claim as Claimed, look, found};
 ghost use Rattle.service.specs.Held.{storeOf, callOf, answerOf, Called};
 ghost use Rattle.service.specs.Reached.{HasPromises};
+use super::kinds::Answer;
 use super::kinds::Call;
 use super::owner::State;
 use super::pending::Pending;
@@ -22,6 +24,31 @@ use std::alloc::AllocError;
 use std::alloc::Global;
 
 impl Store {
+    /// The store comes up on an empty register, for the first time. What it writes is its coming-up.
+    pub fn new(heap: Global, times: Times) -> Result<(Store, Pending), AllocError>
+        ensures { λ r. ⌜ ifMade r (λ p. (storeOf (p .0 .state) ≡ record { register = applied cameUp bare; leases = [] }) × (p .0 .clock ≡ 0) × (p .0 .times ≡ times) × (p .1 .what ≡ Some Record.CameUp)) ⌝ }
+    {
+        let mut register = Register::new(heap)?;
+        let _ = register.apply(Record::CameUp);
+        let state = State {
+            register,
+            book: Book::new(heap),
+            long: times.long(),
+        };
+        let pending = Pending {
+            answer: Answer::Done,
+            what: Some(Record::CameUp),
+        };
+        Ok((
+            Store {
+                state,
+                clock: 0,
+                times,
+            },
+            pending,
+        ))
+    }
+
     /// Everything that is promised of every run is promised of this store, whatever clocks the offices have.
     pub fn promised(&self) -> u64
         ensures reading { λ r. ⌜ r ≡ now (self .entry) .clock ⌝ }

@@ -9,10 +9,14 @@ use Rattle.service.proofs.store.Store.call.Needs as need
 pub ghost-self : need.ghost-self
 ghost-self c =
     let s = c .args .self .now in
-    let h : s .clock ≤ c .max-reading .result = omega (arith, c .max-reading .ensures) in
-    (c .call-pending .ensures .long ∙ s .«same_long»,
-    (goes-on (s .times .long) (s .times .short) (s .times .rate) (s .times .fits) (s .state) (c .call-pending .last .self) (s .«same_long») (s .clock) (c .max-reading .result) h (c .args .call) (s .reached)
-        (c .call-pending .result) (c .call-pending .ensures .called), tt))
+    let h : s .clock ≤ c .max-reading .result = omega (arith, c .max-reading .ensures) in (
+      c .call-pending .ensures .long ∙ s .«same_long»,
+      (
+        goes-on (s .times .long) (s .times .short) (s .times .rate) (s .times .fits) (s .state) (c .call-pending .last .self) (s .«same_long») (s .clock) (c .max-reading .result) h (c .args .call) (s .reached)
+            (c .call-pending .result) (c .call-pending .ensures .called),
+        tt,
+      ),
+    )
 
 pub returns : need.returns
 returns c =
