@@ -64,3 +64,6 @@ impl Lease {
         self.runs(long, new.since) && !self.is_of(new.office, &new.stages)
     }
 }
+
+#[cfg(test)]
+mod tests;

@@ -1,9 +1,9 @@
 //! The calls of the store.
 
 ghost use mathlib.Core.Path.{_≡_};
-ghost use mathlib.Core.List.{List, []};
+ghost use mathlib.Core.List.{List, [], _∷_, _++_};
 ghost use Prim.Native.Nat.{ℕ, _+_, _<_, _≤_, max};
-ghost use Rattle.std.specs.declared.option.Option.the-variants.{Some};
+ghost use Rattle.std.specs.Of.Vec.{vec-items};
 ghost use Rattle.std.specs.Vec.{made as ifMade};
 ghost use Rattle.std.specs.Results.{Cases};
 ghost use Rattle.table.specs.Update.{keysFor};
@@ -11,6 +11,7 @@ ghost use Rattle.register.specs.Registers.{bare, applied, cameUp, rowsOf};
 ghost use Rattle.service.specs.Calls.{Claim as Claimed, look, found};
 ghost use Rattle.service.specs.Held.{storeOf, callOf, answerOf, Called};
 ghost use Rattle.service.specs.Reached.{HasPromises};
+use super::batch::Batch;
 use super::kinds::Answer;
 use super::kinds::Call;
 use super::owner::State;
@@ -24,10 +25,14 @@ use std::alloc::AllocError;
 use std::alloc::Global;
 
 impl Store {
-    /// The store comes up on an empty register, for the first time. What it writes is its coming-up.
-    pub fn new(heap: Global, times: Times) -> Result<(Store, Pending), AllocError>
-        ensures { λ r. ⌜ ifMade r (λ p. (storeOf (p .0 .state) ≡ record { register = applied cameUp bare; leases = [] }) × (p .0 .clock ≡ 0) × (p .0 .times ≡ times) × (p .1 .what ≡ Some Record.CameUp)) ⌝ }
+    /// The store comes up on an empty register, for the first time. Its coming-up waits in the batch.
+    pub fn new(heap: Global, times: Times, batch: &mut Batch) -> Result<Store, AllocError>
+        ensures { λ r. ⌜ ifMade r (λ s. (storeOf (s .state) ≡ record { register = applied cameUp bare; leases = [] }) × (s .clock ≡ 0) × (s .times ≡ times) × (vec-items (now (batch .exit) .records) ≡ vec-items (now (batch .entry) .records) ++ Record.CameUp ∷ [])) ⌝ }
     {
+        batch.add(Pending {
+            answer: Answer::Done,
+            what: Some(Record::CameUp),
+        })?;
         let mut register = Register::new(heap)?;
         let _ = register.apply(Record::CameUp);
         let state = State {
@@ -35,22 +40,16 @@ impl Store {
             book: Book::new(heap),
             long: times.long(),
         };
-        let pending = Pending {
-            answer: Answer::Done,
-            what: Some(Record::CameUp),
-        };
-        Ok((
-            Store {
-                state,
-                clock: 0,
-                times,
-            },
-            pending,
-        ))
+        Ok(Store {
+            state,
+            clock: 0,
+            times,
+        })
     }
 
-    /// Everything that is promised of every run is promised of this store, whatever clocks the offices have.
-    pub fn promised(&self) -> u64
+    /// The last reading of the clock. At it the store has everything that is promised of every run, whatever clocks the
+    /// offices have.
+    pub fn clock(&self) -> u64
         ensures reading { λ r. ⌜ r ≡ now (self .entry) .clock ⌝ }
         ensures promises { λ _. ⌜ HasPromises (now (self .entry) .times .long) (now (self .entry) .times .short) (now (self .entry) .times .rate) (storeOf (now (self .entry) .state)) (now (self .entry) .clock) ⌝ }
     {
@@ -64,6 +63,7 @@ impl Store {
         ensures clock { λ _. ⌜ now (self .exit) .clock ≡ max (now (self .entry) .clock) reading ⌝ }
         ensures times { λ _. ⌜ now (self .exit) .times ≡ now (self .entry) .times ⌝ }
         ensures called { λ r. ⌜ Cases r (λ p. Called (now (self .entry) .times .long) (storeOf (now (self .entry) .state)) (storeOf (now (self .exit) .state)) (max (now (self .entry) .clock) reading) call (p .answer) (p .what)) (λ _. storeOf (now (self .exit) .state) ≡ storeOf (now (self .entry) .state)) ⌝ }
+        ensures promises { λ _. ⌜ HasPromises (now (self .exit) .times .long) (now (self .exit) .times .short) (now (self .exit) .times .rate) (storeOf (now (self .exit) .state)) (now (self .exit) .clock) ⌝ }
         ensures looks { λ r. ⌜ ifMade r (λ p. (o : ℕ) (c : Claimed) (i v : ℕ) (ks : List ℕ) → callOf call ≡ look o c i v → answerOf (p .answer) ≡ found ks → ks ≡ keysFor 4096 (rowsOf i (storeOf (now (self .entry) .state) .register)) v) ⌝ }
     {
         let reading = self.clock.max(reading);

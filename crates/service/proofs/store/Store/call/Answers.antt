@@ -3,7 +3,7 @@ use Prim.Native.Nat.{ℕ, _≤_}
 use native.Mathlib.Omega.{arith}
 use Rattle.std.specs.Results.{Cases}
 use Rattle.service.specs.Held.{storeOf, Called}
-use Rattle.service.proofs.Runs.{goes-on, finds}
+use Rattle.service.proofs.Runs.{goes-on, finds, has-promises}
 use Rattle.service.proofs.store.Store.call.Needs as need
 
 pub ghost-self : need.ghost-self
@@ -27,6 +27,9 @@ returns c =
       times = refl;
       called = subst₂ (λ l t. Cases (c .call-pending .result) (λ p. Called l (storeOf (s .state)) (storeOf (c .call-pending .last .self)) t (c .args .call) (p .answer) (p .what)) (λ _. storeOf (c .call-pending .last .self) ≡ storeOf (s .state)))
           (s .«same_long») (c .max-reading .ensures) (c .call-pending .ensures .called);
+      promises = has-promises (s .times .long) (s .times .short) (s .times .rate) (s .times .fits) (storeOf (c .call-pending .last .self)) (c .max-reading .result)
+          (goes-on (s .times .long) (s .times .short) (s .times .rate) (s .times .fits) (s .state) (c .call-pending .last .self) (s .«same_long») (s .clock) (c .max-reading .result) h (c .args .call) (s .reached)
+          (c .call-pending .result) (c .call-pending .ensures .called));
       looks = finds (s .times .long) (s .times .short) (s .times .rate) (s .times .fits) (s .state) (c .call-pending .last .self) (s .«same_long») (s .clock) (c .max-reading .result) h (c .args .call) (s .reached)
           (c .call-pending .result) (c .call-pending .ensures .called);
     }

@@ -1,7 +1,7 @@
 use mathlib.Core.Path.{refl}
 use Rattle.service.specs.Held.{storeOf}
 use Rattle.service.proofs.Runs.{has-promises}
-use Rattle.service.proofs.store.Store.promised.Needs as need
+use Rattle.service.proofs.store.Store.clock.Needs as need
 
 pub returns : need.returns
 returns c =
