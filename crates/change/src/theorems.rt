@@ -4,7 +4,7 @@ ghost use Rattle.change.specs.Promises.{OneChange, FillTurns};
 ghost use Rattle.change.specs.Examples.{CanBePublic, CanBeGone};
 ghost use Rattle.change.specs.Batches.{FilledInParts, ClearedInParts, FilledBySteps, ClearedBySteps};
 
-/// The theorem of one change, of every town that steps lead to.
+/// The theorem of one change, of every state that steps lead to.
 pub fn one_change_keeps() -> u8
     ensures keeps { λ _. ⌜ OneChange ⌝ }
     ensures turns { λ _. ⌜ FillTurns ⌝ }

@@ -25,6 +25,3 @@ pub use store::Store;
 pub use theorems::example_can_run;
 pub use theorems::keeps;
 pub use theorems::stays;
-
-#[cfg(test)]
-mod tests;

@@ -13,6 +13,7 @@ pub struct Store {
     pub(super) state: State,
     pub(super) clock: u64,
     pub(super) times: Times,
+    pub(super) announced: bool,
     ghost same_long: { state .long ≡ times .long },
     ghost reached: { ∥ Reached (times .long) (times .short) (times .rate) (storeOf state) clock ∥₁ },
 }
