@@ -1,6 +1,6 @@
 -- One key of backfill or cleanup.
 use mathlib.Core.Path.{_≡_, refl, sym, _∙_, ap, ap₂, fun-ext}
-use mathlib.Core.Bool.{Bool, true, false, cond, not, _&&_}
+use mathlib.Core.Bool.{Bool, true, false, true≢false, cond, not, _&&_}
 use mathlib.Core.Logic.{⊎-elim}
 use mathlib.Core.List.{List}
 use Prim.Native.Nat.{ℕ, _<_}
@@ -14,6 +14,7 @@ use Rattle.std.specs.declared.result.Result.{Result}
 use Rattle.std.specs.declared.result.Result.the-variants.{Ok, Err}
 use Rattle.table.specs.declared.row.Row.{Row}
 use Rattle.table.specs.declared.owners.Entries.{Entries}
+use Rattle.std.specs.Results.{isErr}
 use Rattle.table.specs.Held.{entryOf}
 use Rattle.table.specs.Update.{update}
 use Rattle.table.specs.Layout.{valueIn}
@@ -29,7 +30,7 @@ use Rattle.change.specs.Heads.{headOf, headBy, aboutOf, workOn, Worked}
 use Rattle.change.proofs.Batches.{one-turn}
 use Rattle.register.specs.Registers as rules
 use Rattle.register.specs.Registers.{cellOf, rowsOf, workedOn, applied}
-use Rattle.register.specs.Held.{entryIn, OneKey, canDo}
+use Rattle.register.specs.Held.{entryIn, OneKey, canDo, Applied}
 use Rattle.register.proofs.Parts.{entry-same, entry-other}
 
 -- the entries of one index are others
@@ -105,28 +106,47 @@ cell-there x r = by (x .way)
     by (Up s) = refl
     by (Down s) = refl
 
-module _ (R : rules.Register) (i k : ℕ) (x y : Index) (fs : ℕ → ℕ → Option ℕ) (small : i < 8) (is : R .head i ≡ headOf x) (onwards : headOf y ≡ onward (headOf x)) where
-  mid : rules.Register
-  mid = record { row = R .row; entry = fs; head = R .head; epoch = R .epoch }
+module _ (R : rules.Register) (i k : ℕ) (x : Index) (small : i < 8) (is : R .head i ≡ headOf x) where
+  abbrev seen : ℕ → Option ℕ
+  seen = λ k. valueIn (x .column .number) (R .row k)
 
-  worked : (es : ℕ → Option ℕ) → ((n j : ℕ) → fs n j ≡ update i es (R .entry) n j) → _≡_ {A = rules.Register} (record { row = R .row; entry = fs; head = update i (headOf y) (R .head); epoch = R .epoch }) (workedOn i es R)
-  worked es f = λ t. record {
-    row = R .row;
-    entry = fun-ext (λ n. fun-ext (λ j. f n j)) t;
-    head = ap (λ h. update i h (R .head)) (onwards ∙ ap onward (sym is)) t;
-    epoch = R .epoch;
-  }
+  same-rows : rowsOf i R ≡ seen
+  same-rows = fun-ext (λ j. ap (λ h. cellOf h (R .row j)) is ∙ cell-there x (R .row j))
 
-  pub did-clear : isNone (whyNotClear 4096 true (headOf x)) && eqb k (doneOf (headOf x)) ≡ true → ((n j : ℕ) → fs n j ≡ update i (cleanedUp k (R .entry i)) (R .entry) n j)
-      → (canDo (rules.cleared i k) R ≡ true) × (_≡_ {A = rules.Register} (record { row = R .row; entry = fs; head = update i (headOf y) (R .head); epoch = R .epoch }) (applied (rules.cleared i k) R))
-  did-clear m f = (rw (lt-ltb i 8 small, is, m), worked _ f)
+  pub can-clear : (b : Bool) → isNone (whyNotClear 4096 true (headOf x)) && eqb k (doneOf (headOf x)) ≡ b → canDo (rules.cleared i k) R ≡ b
+  can-clear true m = rw (lt-ltb i 8 small, is, m)
+  can-clear false m = rw (lt-ltb i 8 small, is, m)
 
-  pub did-fill : let rows : ℕ → Option ℕ = λ k. valueIn (x .column .number) (R .row k) in
-      isNone (whyNotFill 4096 true (headOf x)) && eqb k (doneOf (headOf x)) && not (mustTurn 4096 rows (R .entry i) (headOf x)) ≡ true → ((n j : ℕ) → fs n j ≡ update i (backfilled k rows (R .entry i)) (R .entry) n j)
-      → (canDo (rules.filled i k) R ≡ true) × (_≡_ {A = rules.Register} (record { row = R .row; entry = fs; head = update i (headOf y) (R .head); epoch = R .epoch }) (applied (rules.filled i k) R))
-  did-fill m f =
-      let same : rowsOf i R ≡ (λ k. valueIn (x .column .number) (R .row k)) = fun-ext (λ j. ap (λ h. cellOf h (R .row j)) is ∙ cell-there x (R .row j)) in
-      (go (rowsOf i R) same, worked _ f ∙ ap (λ rows. workedOn i (backfilled k rows (R .entry i)) R) (sym same))
+  pub can-fill : (b : Bool) → isNone (whyNotFill 4096 true (headOf x)) && eqb k (doneOf (headOf x)) && not (mustTurn 4096 seen (R .entry i) (headOf x)) ≡ b → canDo (rules.filled i k) R ≡ b
+  can-fill b m = go b m (rowsOf i R) same-rows
     where
-      go : (rows : ℕ → Option ℕ) → rows ≡ (λ k. valueIn (x .column .number) (R .row k)) → ltb i 8 && isNone (whyNotFill 4096 true (R .head i)) && eqb k (doneOf (R .head i)) && not (mustTurn 4096 rows (R .entry i) (R .head i)) && true ≡ true
-      go rows e = rw (lt-ltb i 8 small, is, e, m)
+      go : (b : Bool) → isNone (whyNotFill 4096 true (headOf x)) && eqb k (doneOf (headOf x)) && not (mustTurn 4096 seen (R .entry i) (headOf x)) ≡ b → (rows : ℕ → Option ℕ) → rows ≡ seen
+          → ltb i 8 && isNone (whyNotFill 4096 true (R .head i)) && eqb k (doneOf (R .head i)) && not (mustTurn 4096 rows (R .entry i) (R .head i)) && true ≡ b
+      go true m rows e = rw (lt-ltb i 8 small, is, e, m)
+      go false m rows e = rw (lt-ltb i 8 small, is, e, m)
+
+  module _ (y : Index) (fs : ℕ → ℕ → Option ℕ) (onwards : headOf y ≡ onward (headOf x)) where
+    worked : (es : ℕ → Option ℕ) → ((n j : ℕ) → fs n j ≡ update i es (R .entry) n j) → _≡_ {A = rules.Register} (record { row = R .row; entry = fs; head = update i (headOf y) (R .head); epoch = R .epoch }) (workedOn i es R)
+    worked es f = λ t. record {
+      row = R .row;
+      entry = fun-ext (λ n. fun-ext (λ j. f n j)) t;
+      head = ap (λ h. update i h (R .head)) (onwards ∙ ap onward (sym is)) t;
+      epoch = R .epoch;
+    }
+
+    pub did-clear : ((n j : ℕ) → fs n j ≡ update i (cleanedUp k (R .entry i)) (R .entry) n j)
+        → _≡_ {A = rules.Register} (record { row = R .row; entry = fs; head = update i (headOf y) (R .head); epoch = R .epoch }) (applied (rules.cleared i k) R)
+    did-clear f = worked _ f
+
+    pub did-fill : ((n j : ℕ) → fs n j ≡ update i (backfilled k seen (R .entry i)) (R .entry) n j)
+        → _≡_ {A = rules.Register} (record { row = R .row; entry = fs; head = update i (headOf y) (R .head); epoch = R .epoch }) (applied (rules.filled i k) R)
+    did-fill f = worked _ f ∙ ap (λ rows. workedOn i (backfilled k rows (R .entry i)) R) (sym same-rows)
+
+-- the entries came back as they were
+pub left-alone : (R : rules.Register) (fs : ℕ → ℕ → Option ℕ) → ((n j : ℕ) → fs n j ≡ R .entry n j) → _≡_ {A = rules.Register} (record { row = R .row; entry = fs; head = R .head; epoch = R .epoch }) R
+left-alone R fs f = λ t. record { row = R .row; entry = fun-ext (λ n. fun-ext (f n)) t; head = R .head; epoch = R .epoch }
+
+-- what cannot be done is refused
+pub refused-record : {X Y : Type 0} (r : Result X Y) (x : rules.Record) (R S : rules.Register) → isErr r ≡ true → canDo x R ≡ false → S ≡ R → Applied r x R S
+refused-record (Ok u) x R S e c s = absurd (true≢false (sym e))
+refused-record (Err u) x R S e c s = (c, s)

@@ -2,7 +2,7 @@
 use mathlib.Core.Path.{_≡_, refl, sym, _∙_, ap, ap₂, fun-ext}
 use mathlib.Core.Bool.{Bool, true, false, cond, _&&_}
 use mathlib.Core.Logic.{⊎-elim}
-use mathlib.Core.List.{List, [], _∷_, map}
+use mathlib.Core.List.{List, [], _∷_, _++_, map}
 use Prim.Native.Nat.{ℕ, zero, suc, _+_, _<_, _≤_}
 use native.Mathlib.Omega.{arith}
 use lib.Dec.{eqb, leb}
@@ -24,7 +24,7 @@ use Rattle.change.specs.declared.kinds.Index.{Index}
 use Rattle.change.specs.Index.{refuses}
 use Rattle.change.specs.Heads.{slotOf}
 use Rattle.change.specs.Protocol.{gone, stageOf}
-use Rattle.register.specs.Registers.{Register, bare, cellOf, applied, replayed, allStages, areStages}
+use Rattle.register.specs.Registers.{Register, bare, cellOf, applied, replayed, allStages, areStages, wrote}
 use Rattle.register.specs.declared.kinds.Record as codes
 use Rattle.register.specs.Held.{entryIn, headIn, recordOf, canDo, canDoAll}
 
@@ -76,24 +76,26 @@ changed k F f g e j = ap₂ (λ a b. cond (eqb j k) (F a) b) (e k) (e j)
 pub unchanged : (k : ℕ) (f : ℕ → Option ℕ) (j : ℕ) → f j ≡ update k (f k) f j
 unchanged k f j = ⊎-elim (λ e. rw (eq-eqb j k e) (ap f e)) (λ ne. rw (ne-eqb j k ne)) (cases-eq j k)
 
--- nothing is there
-abbrev pub NoEntries : List Entries → Type 0
-NoEntries [] = Unit {0}
-NoEntries (e ∷ es) = ((j : ℕ) → entryOf e j ≡ None) × NoEntries es
-
-no-entry : (es : List Entries) → NoEntries es → (i j : ℕ) → entryIn es i j ≡ None
-no-entry [] n i j = refl
-no-entry (e ∷ es) n zero j = n .0 j
-no-entry (e ∷ es) n (suc i) j = no-entry es (n .1) i j
+-- the entries of one more index
+pub none-more : (es : List Entries) (e : Entries) → ((i j : ℕ) → entryIn es i j ≡ None) → ((j : ℕ) → entryOf e j ≡ None) → (i j : ℕ) → entryIn (es ++ (e ∷ [])) i j ≡ None
+none-more [] e n m zero j = m j
+none-more [] e n m (suc i) j = refl
+none-more (x ∷ es) e n m zero j = n zero j
+none-more (x ∷ es) e n m (suc i) j = none-more es e (λ i j. n (suc i) j) m i j
 
 no-head : (n i : ℕ) → headIn (replicate n None) i ≡ gone
 no-head zero i = refl
 no-head (suc n) zero = refl
 no-head (suc n) (suc i) = no-head n i
 
-pub all-bare : (rows : Rows) (es : List Entries) → ((j : ℕ) → rowOf rows j ≡ None) → NoEntries es
+pub all-bare : (rows : Rows) (es : List Entries) → ((j : ℕ) → rowOf rows j ≡ None) → ((i j : ℕ) → entryIn es i j ≡ None)
     → _≡_ {A = Register} (record { row = rowOf rows; entry = entryIn es; head = headIn (replicate 8 None); epoch = 0 }) bare
-all-bare rows es r e = λ i. record { row = fun-ext r i; entry = fun-ext (λ x. fun-ext (no-entry es e x)) i; head = fun-ext (no-head 8) i; epoch = 0 }
+all-bare rows es r e = λ i. record { row = fun-ext r i; entry = fun-ext (λ x. fun-ext (e x)) i; head = fun-ext (no-head 8) i; epoch = 0 }
+
+-- a row is written, and what follows from it to the entries
+pub all-wrote : (R : Register) (k : ℕ) (n : Option Row) (ss : List ℕ) (row : ℕ → Option Row) (entry : ℕ → ℕ → Option ℕ) → ((j : ℕ) → row j ≡ update k n (R .row) j) → ((i j : ℕ) → entry i j ≡ wrote k n ss R .entry i j)
+    → _≡_ {A = Register} (record { row = row; entry = entry; head = R .head; epoch = R .epoch }) (wrote k n ss R)
+all-wrote R k n ss row entry r e = λ t. record { row = fun-ext r t; entry = fun-ext (λ i. fun-ext (e i)) t; head = R .head; epoch = R .epoch }
 
 -- stages of the code's own are stages, one for each index
 low : (s : Stage) → leb (rank s) 3 ≡ true
@@ -115,12 +117,12 @@ pub are-stages : (n : ℕ) (ss : List Stage) → length ss ≡ n → areStages n
 are-stages n ss e = and-from (eqb (length (ranks ss)) n) (allStages (ranks ss)) (eq-eqb (length (ranks ss)) n (as-many ss ∙ e)) (all-low ss)
 
 -- whether one index refuses a row, by what is read of it
-pub refusal-at : (hs : List (Option Index)) (es : List Entries) (ss : List Stage) (k : ℕ) (row : Row) (n : ℕ) (d : Option Index) (e : Entries) → n < length hs → n < length es
-    → refuses 4096 (slotOf (getD hs n d)) (rank (getD ss n Absent)) k (cellOf (slotOf (getD hs n d)) (Some row)) (entryOf (getD es n e))
+pub refusal-at : (hs : List (Option Index)) (es : List Entries) (ss : List Stage) (k : ℕ) (row : Row) (n : ℕ) (d : Option Index) (e : Entries) → n < length hs → n < length es → e ≡ getD es n e
+    → refuses 4096 (slotOf (getD hs n d)) (rank (getD ss n Absent)) k (cellOf (slotOf (getD hs n d)) (Some row)) (entryOf e)
     ≡ refuses 4096 (headIn hs n) (getD (ranks ss) n 0) k (cellOf (headIn hs n) (Some row)) (entryIn es n)
-refusal-at hs es ss k row n d e l m =
-    ap (λ h. refuses 4096 (slotOf h) (rank (getD ss n Absent)) k (cellOf (slotOf h) (Some row)) (entryOf (getD es n e))) (getD-default hs n d None l)
-    ∙ ap₂ (λ s f. refuses 4096 (headIn hs n) s k (cellOf (headIn hs n) (Some row)) f) (sym (rank-at ss n)) (sym (fun-ext (entry-at es n e m)))
+refusal-at hs es ss k row n d e l m is =
+    ap (λ h. refuses 4096 (slotOf h) (rank (getD ss n Absent)) k (cellOf (slotOf h) (Some row)) (entryOf e)) (getD-default hs n d None l)
+    ∙ ap₂ (λ s f. refuses 4096 (headIn hs n) s k (cellOf (headIn hs n) (Some row)) f) (sym (rank-at ss n)) (sym (entries-read es n n e refl m is))
 
 -- the stage of one index, by what is read of it
 pub stage-read : (hs : List (Option Index)) (n : ℕ) (d : Option Index) (s : ℕ) → n < length hs → s ≡ stageOf (slotOf (getD hs n d)) → s ≡ stageOf (headIn hs n)

@@ -9,6 +9,7 @@ use Rattle.std.specs.declared.option.Option.{Option}
 use Rattle.std.specs.declared.option.Option.the-variants.{Some, None}
 use Rattle.std.specs.declared.result.Result.{Result}
 use Rattle.std.specs.declared.result.Result.the-variants.{Ok, Err}
+use Rattle.std.specs.Of.Vec.{vec-items}
 use Rattle.table.specs.declared.owners.Entries.{Entries}
 use Rattle.table.specs.Held.{rowOf, entryOf}
 use Rattle.change.specs.declared.kinds.Index.{Index}
@@ -36,7 +37,7 @@ headIn hs i = slotOf (getD hs i None)
 
 -- the register
 abbrev pub registerOf : Register → rules.Register
-registerOf r = record { row = rowOf (r .rows); entry = entryIn (r .entries); head = headIn (r .heads); epoch = r .epoch }
+registerOf r = record { row = rowOf (r .rows); entry = entryIn (vec-items (r .entries)); head = headIn (r .heads); epoch = r .epoch }
 
 -- a record
 abbrev pub recordOf : Record → rules.Record

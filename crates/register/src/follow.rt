@@ -39,15 +39,14 @@ fn follow_one(
 /// What a writer does to all indexes.
 pub(super) fn follow_all(
     heads: &[Option<Index>; INDEXES],
-    entries: &mut [Entries; INDEXES],
+    entries: &mut [Entries],
     stages: &[Stage; INDEXES],
     key: Key,
     old: Option<Row>,
     write: Write,
 )
     requires { ⌜ length (now entries) ≡ 8 ⌝ }
-    ensures long { λ _. ⌜ length (now (entries .exit)) ≡ 8 ⌝ }
-    ensures entries { λ _. ⌜ ((i j : ℕ) → entryIn (now (entries .exit)) i j ≡ update (key .number) (entryAfter (getD (ranks (now (stages .entry))) i 0) (cellOf (headIn (now (heads .entry)) i) old) (cellOf (headIn (now (heads .entry)) i) (written write)) (entryIn (now (entries .entry)) i (key .number))) (entryIn (now (entries .entry)) i) j) ⌝ }
+    ensures { λ _. ⌜ ((i j : ℕ) → entryIn (now (entries .exit)) i j ≡ update (key .number) (entryAfter (getD (ranks (now (stages .entry))) i 0) (cellOf (headIn (now (heads .entry)) i) old) (cellOf (headIn (now (heads .entry)) i) (written write)) (entryIn (now (entries .entry)) i (key .number))) (entryIn (now (entries .entry)) i) j) ⌝ }
 {
     for i in 0..INDEXES {
         follow_one(heads[i], &mut entries[i], stages[i], key, old, write);

@@ -2,6 +2,7 @@
 
 ghost use mathlib.Core.Path.{_≡_};
 ghost use lib.ListN.{length};
+ghost use Rattle.std.specs.Of.Vec.{vec-items};
 use change::Index;
 use stage::INDEXES;
 use table::Entries;
@@ -11,9 +12,9 @@ use table::Rows;
 #[derive(Drop)]
 pub struct Register {
     pub(super) rows: Rows,
-    pub(super) entries: [Entries; INDEXES],
+    pub(super) entries: Vec<Entries>,
     pub(super) heads: [Option<Index>; INDEXES],
     pub(super) epoch: u64,
-    ghost entries_long: { length entries ≡ 8 },
+    ghost entries_long: { length (vec-items entries) ≡ 8 },
     ghost heads_long: { length heads ≡ 8 },
 }

@@ -111,7 +111,7 @@ impl Register {
     pub fn refuses(&self, stages: &[Stage; INDEXES], key: Key, row: Row) -> bool
         ensures { λ r. ⌜ r ≡ anyBelow (refusedBy 4096 (registerOf (now (self .entry))) (ranks (now (stages .entry))) (key .number) row) 8 ⌝ }
     {
-        any_refuses(&self.heads, &self.entries, stages, key, row)
+        any_refuses(&self.heads, self.entries.as_slice(), stages, key, row)
     }
 }
 
@@ -145,7 +145,7 @@ fn refuses_one(slot: Option<Index>, entries: &Entries, stage: Stage, key: Key, r
 /// Whether some index refuses a key's row.
 fn any_refuses(
     heads: &[Option<Index>; INDEXES],
-    entries: &[Entries; INDEXES],
+    entries: &[Entries],
     stages: &[Stage; INDEXES],
     key: Key,
     row: Row,

@@ -17,6 +17,7 @@ use super::kinds::Record;
 use super::owner::Register;
 use super::work::clear_one;
 use super::work::fill_one;
+use super::work::no_entries;
 use change::Index;
 use change::Refusal;
 use keyset::Key;
@@ -27,7 +28,6 @@ use stage::Write;
 use std::alloc::AllocError;
 use std::alloc::Global;
 use table::Column;
-use table::Entries;
 use table::Row;
 use table::Rows;
 
@@ -37,17 +37,10 @@ impl Register {
         ensures { λ r. ⌜ made r (λ t. registerOf t ≡ bare) ⌝ }
     {
         let rows = Rows::new(heap)?;
-        let a = Entries::new(heap)?;
-        let b = Entries::new(heap)?;
-        let c = Entries::new(heap)?;
-        let d = Entries::new(heap)?;
-        let e = Entries::new(heap)?;
-        let f = Entries::new(heap)?;
-        let g = Entries::new(heap)?;
-        let h = Entries::new(heap)?;
+        let entries = no_entries(heap)?;
         Ok(Register {
             rows,
-            entries: [a, b, c, d, e, f, g, h],
+            entries,
             heads: [None; INDEXES],
             epoch: 0,
         })
@@ -58,7 +51,14 @@ impl Register {
         ensures { λ _. ⌜ registerOf (now (self .exit)) ≡ wrote (key .number) (written write) (ranks (now (stages .entry))) (registerOf (now (self .entry))) ⌝ }
     {
         let old = self.rows.get(key);
-        follow_all(&self.heads, &mut self.entries, stages, key, old, write);
+        follow_all(
+            &self.heads,
+            self.entries.as_mut_slice(),
+            stages,
+            key,
+            old,
+            write,
+        );
         match write {
             Write::Put(row) => self.rows.put(key, &row),
             Write::Take => self.rows.take(key),
@@ -163,7 +163,7 @@ impl Register {
         let next = fill_one(
             head,
             &self.rows,
-            &mut self.entries,
+            self.entries.as_mut_slice(),
             index.number() as usize,
             key,
         )?;
@@ -179,7 +179,12 @@ impl Register {
         let Some(head) = slot else {
             return Err(Refusal::NoIndex);
         };
-        let next = clear_one(head, &mut self.entries, index.number() as usize, key)?;
+        let next = clear_one(
+            head,
+            self.entries.as_mut_slice(),
+            index.number() as usize,
+            key,
+        )?;
         self.set_head(index, Some(next));
         Ok(())
     }

@@ -1,4 +1,4 @@
--- What an owner holds once its words were lent and came back.
+-- What an owner holds once its items were lent and came back.
 use mathlib.Core.Path.{_≡_, sym, _∙_, ap, ap₂}
 use mathlib.Core.List.{List}
 use Prim.Native.Nat.{ℕ}
@@ -9,12 +9,12 @@ use Rattle.std.specs.Changed.{refilled}
 use Rattle.std.specs.Of.Vec.{vec-items}
 use Rattle.table.specs.Update.{update}
 
--- a Vec whose words were lent as us and came back as ws
-pub record Lent {Z : Type 0} (v : Vec ℕ Z) (us ws : List ℕ) : Type 0 where
+-- a Vec whose items were lent as us and came back as ws
+pub record Lent {A Z : Type 0} (v : Vec A Z) (us ws : List A) : Type 0 where
   pub long : length ws ≡ length us
   pub value : us ≡ vec-items v
 
-module _ {Z : Type 0} (v : Vec ℕ Z) (us ws : List ℕ) (l : Lent v us ws) where
+module _ {A Z : Type 0} (v : Vec A Z) (us ws : List A) (l : Lent v us ws) where
   pub lent : refilled v ws .items ≡ ws
   lent = refilled-is v ws (l .long ∙ ap length (l .value) ∙ sym (v .ok .0))
 

@@ -42,19 +42,15 @@ loop-i-again c =
     (done, rest, length-set es n y ∙ c .loop-i .inv .2)
 
 pub returns : need.returns
-returns c =
-    record {
-      long = c .loop-i .inv .2;
-      entries = λ i j.
-          let k = c .args .key .number in
-          let ss = c .args .stages .now in
-          let os = c .args .entries .now in
-          let F : ℕ → Option ℕ → Option ℕ = λ s. entryAfter s (cellOf (headIn (c .args .heads .now) i) (c .args .old)) (cellOf (headIn (c .args .heads .now) i) (written (c .args .write))) in
-          ⊎-elim
-          (λ (l : i < 8). c .loop-i .inv .0 i j (omega arith))
-          (λ (l : 8 ≤ i).
-          let long : length ss ≤ i = omega arith in
-          let none : getD (ranks ss) i 0 ≡ 0 = rank-at ss i ∙ ap rank (List·getD-eq-default ss Absent long) in
-          c .loop-i .inv .1 i j (omega arith) ∙ unchanged k (entryIn os i) j ∙ ap (λ s. update k (F s (entryIn os i k)) (entryIn os i) j) (sym none))
-          (cases-lt i 8);
-    }
+returns c i j =
+    let k = c .args .key .number in
+    let ss = c .args .stages .now in
+    let os = c .args .entries .now in
+    let F : ℕ → Option ℕ → Option ℕ = λ s. entryAfter s (cellOf (headIn (c .args .heads .now) i) (c .args .old)) (cellOf (headIn (c .args .heads .now) i) (written (c .args .write))) in
+    ⊎-elim
+    (λ (l : i < 8). c .loop-i .inv .0 i j (omega arith))
+    (λ (l : 8 ≤ i).
+    let long : length ss ≤ i = omega arith in
+    let none : getD (ranks ss) i 0 ≡ 0 = rank-at ss i ∙ ap rank (List·getD-eq-default ss Absent long) in
+    c .loop-i .inv .1 i j (omega arith) ∙ unchanged k (entryIn os i) j ∙ ap (λ s. update k (F s (entryIn os i k)) (entryIn os i) j) (sym none))
+    (cases-lt i 8)

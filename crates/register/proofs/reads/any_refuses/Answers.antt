@@ -20,7 +20,7 @@ returns-then-refuses-one c =
     let ss = c .args .stages .now in
     let k = c .args .key .number in
     let n = c .loop-i .i in
-    let at = refusal-at hs es ss k (c .args .row) n (c .index-heads-i .result) (c .index-entries-i .result) (omega arith) (omega arith) in
+    let at = refusal-at hs es ss k (c .args .row) n (c .index-heads-i .result) (c .index-entries-i .result) (omega arith) (omega arith) (c .index-entries-i .is) in
     sym (any-some (λ i. refuses 4096 (headIn hs i) (getD (ranks ss) i 0) k (cellOf (headIn hs i) (Some (c .args .row))) (entryIn es i)) 8 n (c .loop-i-test .taken) (sym (c .if-refuses-one .ensures tt ∙ at)))
 
 pub loop-i-again : need.loop-i-again
@@ -30,7 +30,7 @@ loop-i-again c =
     let ss = c .args .stages .now in
     let k = c .args .key .number in
     let n = c .loop-i .i in
-    let at = refusal-at hs es ss k (c .args .row) n (c .index-heads-i .result) (c .index-entries-i .result) (omega arith) (omega arith) in
+    let at = refusal-at hs es ss k (c .args .row) n (c .index-heads-i .result) (c .index-entries-i .result) (omega arith) (omega arith) (c .index-entries-i .is) in
     below-more _ _ (c .loop-i .inv) (sym (c .if-refuses-one .ensures tt ∙ at))
 
 pub returns : need.returns

@@ -15,7 +15,4 @@ returns c =
     let e = getD os at (c .index-entries-at .result) in
     let f = c .clear .last .entries in
     let inside : at < length os = omega arith in
-    record {
-      long = length-set os at f ∙ c .pre .0;
-      key = cleared-one os at e f (c .args .head) (c .args .key .number) inside (fun-ext (entry-at os at (c .index-entries-at .result) inside)) (sym (done-there (c .args .head) ∙ c .if-head-number .left ∙ c .number .ensures)) (c .clear .result) (c .clear .ensures);
-    }
+    cleared-one os at e f (c .args .head) (c .args .key .number) inside (fun-ext (entry-at os at (c .index-entries-at .result) inside)) (sym (done-there (c .args .head) ∙ c .if-head-number .left ∙ c .number .ensures)) (c .clear .result) (c .clear .ensures)

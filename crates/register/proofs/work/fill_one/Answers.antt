@@ -26,7 +26,7 @@ returns-then-is-taken c =
     let next = sym (done-there (c .args .head) ∙ c .if-head-number .left ∙ c .number .ensures) in
     let is : entryIn os at ≡ entryOf (getD os at (c .index-entries-at .result)) = fun-ext (entry-at os at (c .index-entries-at .result) (omega arith)) in
     let m : mustTurn 4096 rows (entryIn os at) h ≡ true = ap (λ es. mustTurn 4096 rows es h) is ∙ must-is rows _ h (c .args .key .number) true next (c .if-is-taken .ensures tt) in
-    record { long = c .pre .0; key = (and-false (isNone (whyNotFill 4096 true h) && eqb (c .args .key .number) (doneOf h)) (not (mustTurn 4096 rows (entryIn os at) h)) (ap not m), λ n j. refl) }
+    (and-false (isNone (whyNotFill 4096 true h) && eqb (c .args .key .number) (doneOf h)) (not (mustTurn 4096 rows (entryIn os at) h)) (ap not m), λ n j. refl)
 
 pub returns : need.returns
 returns c =
@@ -40,7 +40,4 @@ returns c =
     let next = sym (done-there (c .args .head) ∙ c .if-head-number .left ∙ c .number .ensures) in
     let same : getD os at (c .index-entries-at .result) ≡ e = getD-default os at (c .index-entries-at .result) (c .index-entries-at-2 .result) inside in
     let free : mustTurn 4096 rows (entryOf e) h ≡ false = must-is rows (entryOf e) h (c .args .key .number) false next (c .if-is-taken .ensures tt ∙ ap (λ x. refuses 4096 h 2 (c .args .key .number) (rows (c .args .key .number)) (entryOf x)) same) in
-    record {
-      long = length-set os at f ∙ c .pre .0;
-      key = filled-one os at e f (c .args .head) (c .args .key .number) inside (fun-ext (entry-at os at (c .index-entries-at-2 .result) inside)) next rows (c .fill .result) free (c .fill .ensures);
-    }
+    filled-one os at e f (c .args .head) (c .args .key .number) inside (fun-ext (entry-at os at (c .index-entries-at-2 .result) inside)) next rows (c .fill .result) free (c .fill .ensures)

@@ -2,6 +2,7 @@ use mathlib.Core.Path.{_≡_, sym, _∙_, ap}
 use Prim.Native.Nat.{_<_}
 use native.Mathlib.Omega.{arith}
 use lib.ListN.{length}
+use Rattle.std.specs.Of.Vec.{vec-items}
 use Rattle.table.specs.Held.{entryOf, rowOf}
 use Rattle.table.specs.Layout.{valueIn}
 use Rattle.change.specs.Index.{refuses}
@@ -14,6 +15,6 @@ returns c =
     let s = c .args .self .now in
     let h = c .args .head in
     let k = c .args .key .number in
-    let inside : c .number .result < length (s .entries) = omega (arith, c .number .ensures, c .args .index .small, s .«entries_long») in
-    let is = entries-read (s .entries) (c .number .result) (c .args .index .number) (c .index-self-number .result) (c .number .ensures) inside (c .index-self-number .is) ∙ ap entryOf (c .index-self-number .is) in
+    let inside : c .number .result < length (vec-items (s .entries)) = omega (arith, c .number .ensures, c .args .index .small, s .«entries_long») in
+    let is = entries-read (vec-items (s .entries)) (c .number .result) (c .args .index .number) (c .index .result .now) (c .number .ensures) inside (c .index .ensures) in
     c .is-taken .ensures ∙ ap (λ f. refuses 4096 (headOf h) 2 k (valueIn (h .column .number) (rowOf (s .rows) k)) f) (sym is)
