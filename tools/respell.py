@@ -33,20 +33,24 @@ def read(path):
 
 
 def declared(text):
-    """The names that a file declares: at its margin, as fields of a record or as constructors of a type."""
-    block = None
+    """The names that a file declares: at the margin of it or of a module in it, as fields of a record or constructors of a type."""
+    blocks = []
     for line in text.split("\n"):
-        if re.match(r"^(pub\s+)?(record|data)\s", line):
-            block = "fields"
+        words = line.lstrip()
+        if not words or words.startswith("--"):
             continue
-        if line and not line[0].isspace():
-            block = None
-        if line.lstrip().startswith(("--", "use ", "mod ", "pub mod ", "unfolding ")):
+        indent = len(line) - len(words)
+        while blocks and indent <= blocks[-1][0]:
+            blocks.pop()
+        if blocks and blocks[-1][1] is None:
+            blocks[-1][1] = indent
+        if indent != (blocks[-1][1] if blocks else 0):
             continue
-        if line[:1].isspace() and block is None:
+        if re.match(r"(pub\s+)?(record|data|module)\s", words):
+            blocks.append([indent, None])
             continue
         m = HEAD.match(line)
-        if not m or re.search(r":\s*goal\.", line):
+        if not m or words.startswith(("use ", "mod ", "pub mod ", "unfolding ")) or re.search(r":\s*goal\.", line):
             continue
         names = m.group("names").split()
         if not KEEP & set(names):
@@ -77,14 +81,14 @@ def pattern(names):
 
 
 def turned(text, old, camel, new, mark):
-    """The text with the names turned, but for what stands in quotes; in comments those in camel case alone."""
+    """The text with the names turned, but for paths of `use` lines and what stands in quotes; in comments those in camel case alone."""
     out = []
     for line in text.split("\n"):
-        done, quoted, comment = [], False, False
-        for part in re.split(rf'("(?:[^"\\]|\\.)*"|(?:^|(?<=\s)){mark}.*$)', line):
+        done = []
+        for part in re.split(rf'("(?:[^"\\]|\\.)*"|(?:^|(?<=\s)){mark}.*$|^(?:ghost )?use [^{{]*)', line):
             if part.startswith(mark):
                 part = camel.sub(lambda m: new[m.group(0)], part)
-            elif not part.startswith('"'):
+            elif not part.startswith(('"', "use ", "ghost use ")):
                 part = old.sub(lambda m: new[m.group(0)], part)
             done.append(part)
         out.append("".join(done))
@@ -100,6 +104,7 @@ def main():
         print("\n".join(f"{a} {b}" for a, b in sorted(new.items())))
         return
     old = pattern(new)
+    unlikeRust = pattern([n for n in new if re.search("[A-Z-]", n)])
     camel = pattern([n for n in new if re.search("[A-Z]", n)])
     clashes = []
     for path in files(root, ".antt"):
@@ -115,7 +120,7 @@ def main():
     changed = 0
     for path in files(root, (".antt", ".rt", ".edit")):
         before = read(path)
-        after = turned(before, old, camel, new, "--" if path.endswith(".antt") else "//")
+        after = turned(before, old, camel, new, "--") if path.endswith(".antt") else turned(before, unlikeRust, camel, new, "//")
         if after != before:
             changed += 1
             with open(path, "w", encoding="utf-8") as f:

@@ -2,7 +2,7 @@
 use Rattle.std.proofs.Common.{◌≡◌, ℕ, zero, suc, ◌+◌, ◌-◌, ◌<◌, ◌≤◌, min, Bool, true, false, cond, None, Option, sym, refl, ap, ◌∙◌, ⊎_elim, suc-add, zero-add, arith}
 use mathlib.Core.Path.{fun_ext}
 use Rattle.std.proofs.lemmas.Bool.{cases_lt}
-use Rattle.change.specs.Protocol.{Head, there, up, down, stageOf, turnedDown, onward, mayFill, mayClear}
+use Rattle.change.specs.Protocol.{Head, there, up, down, stage_of, turned_down, onward, may_fill, may_clear}
 use Rattle.change.specs.Index.{About, must_turn, backfilled, cleaned_up}
 use Rattle.change.specs.OneChange.{State, alone, Step, fills, clears, why_not, after}
 use Rattle.change.specs.Batches.{Work, repeated, filled, cleared, FilledInParts, ClearedInParts, work_of, IsSteps, FilledBySteps, ClearedBySteps}
@@ -53,17 +53,17 @@ module _ (keys : ℕ) (s : Step) (rows : ℕ → Option ℕ) (may : Work → Boo
           (suc m, omega arith, grind arith, x ∙ ap (repeated may turn n) is)
       go false f ih = (0, omega arith, refl, refl)
 
-same_stage : (b : Bool) (h : Head About) → stageOf (cond b (turnedDown h) (onward h)) ≡ stageOf h
+same_stage : (b : Bool) (h : Head About) → stage_of (cond b (turned_down h) (onward h)) ≡ stage_of h
 same_stage b h = grind arith
 
 pub filled_by_steps : FilledBySteps
 filled_by_steps keys n w e =
-    by-steps keys fills w.rows (λ x. mayFill keys x.head) (filled keys w.rows)
+    by-steps keys fills w.rows (λ x. may_fill keys x.head) (filled keys w.rows)
     (λ u r f m. (grind arith, r, rw same_stage f, rw r)) n w refl e
 
 pub cleared_by_steps : ClearedBySteps
 cleared_by_steps keys n w e =
-    by-steps keys clears w.rows (λ x. mayClear keys x.head) cleared
+    by-steps keys clears w.rows (λ x. may_clear keys x.head) cleared
     (λ u r f m. (grind arith, r, rw (same_stage false u.head) f, refl)) n w refl e
 
 -- work over keys from `from` on, so far over those below k
@@ -98,8 +98,8 @@ clear_next a k es fs f =
     ap with (fun_ext (λ j. sym (f j)))
 
 module _ (keys : ℕ) (rows : ℕ → Option ℕ) (a : About) (k : ℕ) (es fs : ℕ → Option ℕ) where
-  pub fill-next : must_turn keys rows es (there a up 2 k) ≡ false → ((j : ℕ) → fs j ≡ backfilled k rows es j) → filled keys rows (record { head = there a up 2 k; entries = es }) ≡ record { head = there a up 2 (k + 1); entries = fs }
-  fill-next e f =
+  pub fill_next : must_turn keys rows es (there a up 2 k) ≡ false → ((j : ℕ) → fs j ≡ backfilled k rows es j) → filled keys rows (record { head = there a up 2 k; entries = es }) ≡ record { head = there a up 2 (k + 1); entries = fs }
+  fill_next e f =
       let with : Bool → Work = λ b. record { head = cond b (there a down 2 0) (there a up 2 (k + 1)); entries = λ j. cond b (es j) (backfilled k rows es j) } in
       let to : (ℕ → Option ℕ) → Work = λ g. record { head = there a up 2 (k + 1); entries = g } in
       ap with e ∙ ap to (fun_ext (λ j. sym (f j)))

@@ -1,27 +1,27 @@
 -- The stage protocol, proved once for any kind of change.
 use Rattle.std.proofs.Common.{◌≡◌, ℕ, zero, suc, ◌+◌, ◌<◌, ◌≤◌, Bool, true, ◌⊎◌, None, arith}
 use mathlib.Core.Path.{subst⁻¹}
-use Rattle.change.specs.Protocol.{Way, up, down, Head, gone, there, stageOf, done_of, raised, turnedDown, lowered, onward, whyNotMake, whyNotUp, whyNotTurn, whyNotDown, whyNotFill, whyNotClear, Near, AllAt, Kind, Sound}
+use Rattle.change.specs.Protocol.{Way, up, down, Head, gone, there, stage_of, done_of, raised, turned_down, lowered, onward, why_not_make, why_not_up, why_not_turn, why_not_down, why_not_fill, why_not_clear, Near, AllAt, Kind, Sound}
 
 -- two holders are at most one stage apart
 pub one_apart_lem : {A : Type 0} (h : Head A) (s t : ℕ) → Near h s → Near h t → s ≤ t + 1
 one_apart_lem h s t a b = grind arith
 
 -- where a key may be backfilled the change may turn
-pub fill_turn : {A : Type 0} (keys : ℕ) (alone : Bool) (h : Head A) → whyNotFill keys alone h ≡ None → whyNotTurn alone h ≡ None
+pub fill_turn : {A : Type 0} (keys : ℕ) (alone : Bool) (h : Head A) → why_not_fill keys alone h ≡ None → why_not_turn alone h ≡ None
 fill_turn keys alone h e = grind arith
 
 module _ {keys : ℕ} {A X : Type 0} (K : Kind keys A X) where
   -- whoever comes to hold a stage holds the change's own
-  pub held : (h : Head A) {hs fs : ℕ → Type 0} {x : X} → ((s : ℕ) → fs s → (s ≡ stageOf h) ⊎ hs s) → Sound K h hs x → Sound K h fs x
+  pub held : (h : Head A) {hs fs : ℕ → Type 0} {x : X} → ((s : ℕ) → fs s → (s ≡ stage_of h) ⊎ hs s) → Sound K h hs x → Sound K h fs x
   held gone f g = grind arith
   held (there a up s d) f g = grind arith
   held (there a down s d) f g = grind arith
 
   module _ {hs : ℕ → Type 0} {x : X} where
-    pub gone-none : (h : Head A) → whyNotMake h ≡ None → Sound K h hs x → K.NoneTo keys x
-    gone-none gone e g = g.byHead
-    gone-none (there a w s d) e g = absurd (grind arith)
+    pub gone_none : (h : Head A) → why_not_make h ≡ None → Sound K h hs x → K.NoneTo keys x
+    gone_none gone e g = g.by_head
+    gone_none (there a w s d) e g = absurd (grind arith)
 
     -- in stage 3, or with somebody in it, all of it is there
     pub full : (a : A) (w : Way) (s d : ℕ) → hs 3 ⊎ (s ≡ 3) → Sound K (there a w s d) hs x → K.AllTo a keys x
@@ -29,45 +29,45 @@ module _ {keys : ℕ} {A X : Type 0} (K : Kind keys A X) where
     full a down s d three g = grind arith
 
     -- what is seen once the change is there may be another part, with nothing of it there
-    pub make : (h : Head A) (a : A) (y : X) → whyNotMake h ≡ None → K.Always y → K.NoneTo keys y → Sound K h hs x → Sound K (there a up 0 0) hs y
+    pub make : (h : Head A) (a : A) (y : X) → why_not_make h ≡ None → K.Always y → K.NoneTo keys y → Sound K h hs x → Sound K (there a up 0 0) hs y
     make gone a y e always none g = grind (arith, K.made a y)
     make (there b w s d) a y e always none g = absurd (grind arith)
 
     -- a step that is not refused, where all hold the change's own stage if the test says so
     module _ (alone : Bool) where
-      pub raise : (h : Head A) → whyNotUp keys alone h ≡ None → (alone ≡ true → AllAt (stageOf h) hs) → Sound K h hs x → Sound K (raised h) hs x
+      pub raise : (h : Head A) → why_not_up keys alone h ≡ None → (alone ≡ true → AllAt (stage_of h) hs) → Sound K h hs x → Sound K (raised h) hs x
       raise gone e all g = absurd (grind arith)
       raise (there a up s d) e all g = grind (arith, K.all_to_0 a x)
       raise (there a down s d) e all g = absurd (grind arith)
 
-      pub turn : (h : Head A) → whyNotTurn alone h ≡ None → (alone ≡ true → AllAt (stageOf h) hs) → Sound K h hs x → Sound K (turnedDown h) hs x
+      pub turn : (h : Head A) → why_not_turn alone h ≡ None → (alone ≡ true → AllAt (stage_of h) hs) → Sound K h hs x → Sound K (turned_down h) hs x
       turn gone e all g = absurd (grind arith)
       turn (there a up s d) e all g = grind (arith, K.none_to_0 x)
       turn (there a down s d) e all g = absurd (grind arith)
 
-      pub lower : (h : Head A) → whyNotDown keys alone h ≡ None → (alone ≡ true → AllAt (stageOf h) hs) → Sound K h hs x → Sound K (lowered h) hs x
+      pub lower : (h : Head A) → why_not_down keys alone h ≡ None → (alone ≡ true → AllAt (stage_of h) hs) → Sound K h hs x → Sound K (lowered h) hs x
       lower gone e all g = absurd (grind arith)
       lower (there a up s d) e all g = absurd (grind arith)
       lower (there a down zero d) e all g = grind arith
       lower (there a down (suc s) d) e all g = grind (arith, K.none_to_0 x)
 
       module _ (y : X) where
-        pub fill : (h : Head A) → whyNotFill keys alone h ≡ None → (alone ≡ true → AllAt (stageOf h) hs) → K.Fills h (done_of h) x y → Sound K h hs x → Sound K (onward h) hs y
+        pub fill : (h : Head A) → why_not_fill keys alone h ≡ None → (alone ≡ true → AllAt (stage_of h) hs) → K.Fills h (done_of h) x y → Sound K h hs x → Sound K (onward h) hs y
         fill gone e all f g = absurd (grind arith)
         fill (there a up s d) e all f g =
             let two : s ≡ 2 = grind arith in
             let inside : d < keys = grind arith in
-            let r = K.filled a up s d d x y f inside g.always g.byHead.2 (g.byHead.4.1 two).0 in
+            let r = K.filled a up s d d x y f inside g.always g.by_head.2 (g.by_head.4.1 two).0 in
             grind arith
         fill (there a down s d) e all f g = absurd (grind arith)
 
-        pub clear : (h : Head A) → whyNotClear keys alone h ≡ None → (alone ≡ true → AllAt (stageOf h) hs) → K.Clears (done_of h) x y → Sound K h hs x → Sound K (onward h) hs y
+        pub clear : (h : Head A) → why_not_clear keys alone h ≡ None → (alone ≡ true → AllAt (stage_of h) hs) → K.Clears (done_of h) x y → Sound K h hs x → Sound K (onward h) hs y
         clear gone e all f g = absurd (grind arith)
         clear (there a up s d) e all f g = absurd (grind arith)
         clear (there a down s d) e all f g =
             let one : s ≡ 1 = grind arith in
             let inside : d < keys = grind arith in
-            let r = K.cleared a d x y f inside g.always g.byHead.2 (g.byHead.4.1 one).0 in
+            let r = K.cleared a d x y f inside g.always g.by_head.2 (g.by_head.4.1 one).0 in
             grind arith
 
     module _ (y : X) where
@@ -75,10 +75,10 @@ module _ {keys : ℕ} {A X : Type 0} (K : Kind keys A X) where
       pub write : (h : Head A) (s : ℕ) → hs s → K.Writes h s x y → Sound K h hs x → Sound K h hs y
       write gone s i f g =
           let low : s ≤ 1 = let z = g.near s i in omega arith in
-          record { always = K.written_always gone s x y f g.always; near = g.near; byHead = K.written_none gone s x y f low keys g.byHead }
+          record { always = K.written_always gone s x y f g.always; near = g.near; by_head = K.written_none gone s x y f low keys g.by_head }
       write (there a up t d) s i f g =
           let n = g.near s i in
-          let b = K.written_base a up t d s x y f g.always (λ z. g.byHead.4.0 (omega arith)) g.byHead.2 in
+          let b = K.written_base a up t d s x y f g.always (λ z. g.by_head.4.0 (omega arith)) g.by_head.2 in
           let none = K.written_none (there a up t d) s x y f in
           let all = K.written_All a up t d s x y f in
           let first : d ≡ 0 → K.AllTo a d y = λ z. subst⁻¹ (λ n. K.AllTo a n y) z (K.all_to_0 a y) in
@@ -86,7 +86,7 @@ module _ {keys : ℕ} {A X : Type 0} (K : Kind keys A X) where
           grind arith
       write (there a down t d) s i f g =
           let n = g.near s i in
-          let b = K.written_base a down t d s x y f g.always (λ z. g.byHead.4.0 (omega arith)) g.byHead.2 in
+          let b = K.written_base a down t d s x y f g.always (λ z. g.by_head.4.0 (omega arith)) g.by_head.2 in
           let none = K.written_none (there a down t d) s x y f in
           let all = K.written_All a down t d s x y f in
           let first : d ≡ 0 → K.NoneTo d y = λ z. subst⁻¹ (λ n. K.NoneTo n y) z (K.none_to_0 y) in

@@ -40,7 +40,7 @@ step_fine keys (writes s k r) w e g =
 step_fine keys joins w e g = protocol.held (kind keys) w.head (λ s i. grind arith) g
 step_fine keys (leaves n) w e g = protocol.held (kind keys) w.head (λ s i. inr (stayed n w.holders s i)) g
 step_fine keys (made a) w e g =
-    let none = protocol.gone-none (kind keys) w.head e g in
+    let none = protocol.gone_none (kind keys) w.head e g in
     protocol.make (kind keys) w.head a (part_of w) e g.always none g
 step_fine keys goes_up w e g = protocol.raise (kind keys) (alone w) w.head e (all_at_lem _ w.holders) g
 step_fine keys turns w e g = protocol.turn (kind keys) (alone w) w.head e (all_at_lem _ w.holders) g
@@ -57,7 +57,7 @@ steps_fine keys [] w e g = g
 steps_fine keys (s ∷ ss) w e g = steps_fine keys ss (after keys s w) (grind arith) (step_fine keys s w (grind arith) g)
 
 empty_fine : (keys : ℕ) → Fine keys empty
-empty_fine keys = record { always = λ k l. (refl, refl); near = λ s i. grind arith; byHead = λ k l. refl }
+empty_fine keys = record { always = λ k l. (refl, refl); near = λ s i. grind arith; by_head = λ k l. refl }
 
 pub reach_fine : (keys : ℕ) (w : State) → Reach keys w → Fine keys w
 reach_fine keys w (ss, may, e) = subst (λ w. Fine keys w) e (steps_fine keys ss empty may (empty_fine keys))

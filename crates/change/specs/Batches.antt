@@ -1,6 +1,6 @@
 -- Backfill and cleanup of many keys at once are those of one key, again and again.
 use Rattle.std.specs.Prelude.{◌≡◌, ℕ, zero, suc, ◌+◌, ◌≤◌, Bool, true, cond, replicate, Option}
-use Rattle.change.specs.Protocol.{Head, mayFill, mayClear, onward, done_of}
+use Rattle.change.specs.Protocol.{Head, may_fill, may_clear, onward, done_of}
 use Rattle.change.specs.Index.{About, head_filled, entries_filled, cleaned_up}
 use Rattle.change.specs.OneChange.{State, alone, Step, fills, clears, after_all, may_all}
 
@@ -24,11 +24,11 @@ cleared x = record { head = onward x.head; entries = cleaned_up (done_of x.head)
 
 -- backfill of the next n keys, until the change turns or all keys are done
 abbrev pub filled_n : (keys : ℕ) → (rows : ℕ → Option ℕ) → ℕ → Work → Work
-filled_n keys rows = repeated (λ x. mayFill keys x.head) (filled keys rows)
+filled_n keys rows = repeated (λ x. may_fill keys x.head) (filled keys rows)
 
 -- cleanup of the next n keys, until all keys are done
 abbrev pub cleared_n : (keys : ℕ) → ℕ → Work → Work
-cleared_n keys = repeated (λ x. mayClear keys x.head) cleared
+cleared_n keys = repeated (λ x. may_clear keys x.head) cleared
 
 -- backfill of m keys and then of n is that of m + n
 abbrev pub FilledInParts : Type 0

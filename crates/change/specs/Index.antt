@@ -2,7 +2,7 @@
 use Rattle.std.specs.Prelude.{◌≡◌, ℕ, ◌<◌, ◌≤◌, Bool, true, false, cond, ◌&&◌, Some, None, Option}
 use Rattle.table.specs.Update.{update}
 use Rattle.stage.specs.Stages.{put_in, entry_after, refused_by}
-use Rattle.change.specs.Protocol.{Head, gone, there, done_of, turnedDown, onward}
+use Rattle.change.specs.Protocol.{Head, gone, there, done_of, turned_down, onward}
 
 -- what an index is about
 pub record About : Type 0 where
@@ -36,7 +36,7 @@ must_turn keys rows es h = refuses keys h 2 (done_of h) (rows (done_of h)) es
 
 -- the head after a backfill of the next key: the change turns where its value is taken
 abbrev pub head_filled : (keys : ℕ) → (rows entries : ℕ → Option ℕ) → Head About → Head About
-head_filled keys rows es h = cond (must_turn keys rows es h) (turnedDown h) (onward h)
+head_filled keys rows es h = cond (must_turn keys rows es h) (turned_down h) (onward h)
 
 -- the entries after a backfill of the next key
 abbrev pub entries_filled : (keys : ℕ) → (rows entries : ℕ → Option ℕ) → Head About → ℕ → Option ℕ

@@ -1,7 +1,7 @@
 -- What one change promises at every moment, whatever steps led there.
 use Rattle.std.specs.Prelude.{◌≡◌, ℕ, ◌+◌, ◌<◌, ◌≤◌, Bool, true, false, ◌&&◌, ◌⊎◌, List, [], ◌∷◌, Some, None, Option, ◌≢◌}
 use Rattle.table.specs.Update.{keys_for}
-use Rattle.change.specs.Protocol.{gone, there, up, down, stageOf}
+use Rattle.change.specs.Protocol.{gone, there, up, down, stage_of}
 use Rattle.change.specs.Index.{About, unique_of, refuses, must_turn, NoOrphan, NoneTwice}
 use Rattle.change.specs.OneChange.{State, Step, writes, joins, leaves, made, goes_up, turns, goes_down, fills, clears, holds, why_not, after, after_all, may_all, Reach}
 
@@ -51,7 +51,7 @@ pub record Keeps (keys : ℕ) (w : State) : Type 0 where
   -- whoever holds it as public finds by the index what a look through all rows finds
   pub looks_right : HeldPublic w → (v : ℕ) → keys_for keys w.entries v ≡ keys_for keys w.rows v
   -- no two rows have one value in a unique index that is public, or held as public
-  pub one_number : unique_of w.head ≡ true → HeldPublic w ⊎ (stageOf w.head ≡ 3) → NoneTwice w.rows
+  pub one_number : unique_of w.head ≡ true → HeldPublic w ⊎ (stage_of w.head ≡ 3) → NoneTwice w.rows
   -- a row is refused only where another key's row has its value
   pub refused_rightly : (s k v : ℕ) → refuses keys w.head s k (Some v) w.entries ≡ true → (j : ℕ) × (j < keys) × (j ≢ k) × (w.rows j ≡ Some v)
   -- a change that is gone leaves no entry

@@ -13,9 +13,9 @@ pub data Head (A : Type 0) : Type 0 where
 
 module _ {A : Type 0} where
   -- the change's own stage
-  abbrev pub stageOf : Head A → ℕ
-  stageOf gone = 0
-  stageOf (there a w s d) = s
+  abbrev pub stage_of : Head A → ℕ
+  stage_of gone = 0
+  stage_of (there a w s d) = s
 
   -- over how many keys backfill or cleanup has gone
   abbrev pub done_of : Head A → ℕ
@@ -23,21 +23,21 @@ module _ {A : Type 0} where
   done_of (there a w s d) = d
 
   -- is there no such change
-  abbrev pub isGone : Head A → Bool
-  isGone gone = true
-  isGone (there a w s d) = false
+  abbrev pub is_gone : Head A → Bool
+  is_gone gone = true
+  is_gone (there a w s d) = false
 
   -- is there a change that goes up
-  abbrev pub goingUp : Head A → Bool
-  goingUp gone = false
-  goingUp (there a up s d) = true
-  goingUp (there a down s d) = false
+  abbrev pub going_up : Head A → Bool
+  going_up gone = false
+  going_up (there a up s d) = true
+  going_up (there a down s d) = false
 
   -- is there a change that goes down
-  abbrev pub goingDown : Head A → Bool
-  goingDown gone = false
-  goingDown (there a up s d) = false
-  goingDown (there a down s d) = true
+  abbrev pub going_down : Head A → Bool
+  going_down gone = false
+  going_down (there a up s d) = false
+  going_down (there a down s d) = true
 
   -- the head a stage further up
   abbrev pub raised : Head A → Head A
@@ -45,9 +45,9 @@ module _ {A : Type 0} where
   raised (there a w s d) = there a w (s + 1) 0
 
   -- the head turned to go down
-  abbrev pub turnedDown : Head A → Head A
-  turnedDown gone = gone
-  turnedDown (there a w s d) = there a down s 0
+  abbrev pub turned_down : Head A → Head A
+  turned_down gone = gone
+  turned_down (there a w s d) = there a down s 0
 
   -- the head a stage further down; below stage 0 the change is gone
   abbrev pub lowered : Head A → Head A
@@ -61,49 +61,49 @@ module _ {A : Type 0} where
   onward (there a w s d) = there a w s (d + 1)
 
   -- is there a change, and somebody who holds another stage than its own (alone: nobody does)
-  abbrev pub heldUp : (alone : Bool) → Head A → Bool
-  heldUp alone h = not (isGone h) && not alone
+  abbrev pub held_up : (alone : Bool) → Head A → Bool
+  held_up alone h = not (is_gone h) && not alone
 
   -- is this the stage and way of backfill
   abbrev pub backfills : Head A → Bool
-  backfills h = goingUp h && stageOf h == 2
+  backfills h = going_up h && stage_of h == 2
 
   -- is this the stage and way of cleanup
-  abbrev pub cleansUp : Head A → Bool
-  cleansUp h = goingDown h && stageOf h == 1
+  abbrev pub cleans_up : Head A → Bool
+  cleans_up h = going_down h && stage_of h == 1
 
   module _ (keys : ℕ) where
     -- is there a key left to backfill
-    abbrev pub mayFill : Head A → Bool
-    mayFill h = backfills h && nat_lt (done_of h) keys
+    abbrev pub may_fill : Head A → Bool
+    may_fill h = backfills h && nat_lt (done_of h) keys
 
     -- is there a key left to clean up
-    abbrev pub mayClear : Head A → Bool
-    mayClear h = cleansUp h && nat_lt (done_of h) keys
+    abbrev pub may_clear : Head A → Bool
+    may_clear h = cleans_up h && nat_lt (done_of h) keys
 
     -- why a change may not go up: 5 held up, or backfill is not done; 6 it does not go up, or no further
-    abbrev pub whyNotUp : (alone : Bool) → Head A → Option ℕ
-    whyNotUp alone h = cond (heldUp alone h || backfills h && not (done_of h == keys)) (Some 5) (cond (not (goingUp h && nat_lt (stageOf h) 3)) (Some 6) None)
+    abbrev pub why_not_up : (alone : Bool) → Head A → Option ℕ
+    why_not_up alone h = cond (held_up alone h || backfills h && not (done_of h == keys)) (Some 5) (cond (not (going_up h && nat_lt (stage_of h) 3)) (Some 6) None)
 
     -- why a change may not go down: 5 held up, or cleanup is not done; 6 it does not go down
-    abbrev pub whyNotDown : (alone : Bool) → Head A → Option ℕ
-    whyNotDown alone h = cond (heldUp alone h || cleansUp h && not (done_of h == keys)) (Some 5) (cond (not (goingDown h)) (Some 6) None)
+    abbrev pub why_not_down : (alone : Bool) → Head A → Option ℕ
+    why_not_down alone h = cond (held_up alone h || cleans_up h && not (done_of h == keys)) (Some 5) (cond (not (going_down h)) (Some 6) None)
 
     -- why no key may be backfilled: 5 held up; 7 not this stage and way, or all keys are done
-    abbrev pub whyNotFill : (alone : Bool) → Head A → Option ℕ
-    whyNotFill alone h = cond (heldUp alone h) (Some 5) (cond (not (mayFill h)) (Some 7) None)
+    abbrev pub why_not_fill : (alone : Bool) → Head A → Option ℕ
+    why_not_fill alone h = cond (held_up alone h) (Some 5) (cond (not (may_fill h)) (Some 7) None)
 
     -- why no key may be cleaned up: 5 held up; 7 not this stage and way, or all keys are done
-    abbrev pub whyNotClear : (alone : Bool) → Head A → Option ℕ
-    whyNotClear alone h = cond (heldUp alone h) (Some 5) (cond (not (mayClear h)) (Some 7) None)
+    abbrev pub why_not_clear : (alone : Bool) → Head A → Option ℕ
+    why_not_clear alone h = cond (held_up alone h) (Some 5) (cond (not (may_clear h)) (Some 7) None)
 
   -- why no change may be made: 6 it is there already
-  abbrev pub whyNotMake : Head A → Option ℕ
-  whyNotMake h = cond (not (isGone h)) (Some 6) None
+  abbrev pub why_not_make : Head A → Option ℕ
+  why_not_make h = cond (not (is_gone h)) (Some 6) None
 
   -- why a change may not turn: 5 held up; 6 it does not go up
-  abbrev pub whyNotTurn : (alone : Bool) → Head A → Option ℕ
-  whyNotTurn alone h = cond (heldUp alone h) (Some 5) (cond (not (goingUp h)) (Some 6) None)
+  abbrev pub why_not_turn : (alone : Bool) → Head A → Option ℕ
+  why_not_turn alone h = cond (held_up alone h) (Some 5) (cond (not (going_up h)) (Some 6) None)
 
   -- a holder's stage is the change's own, or the one that it came from
   abbrev pub Near : Head A → ℕ → Type 0
@@ -165,4 +165,4 @@ module _ {keys : ℕ} {A X : Type 0} (K : Kind keys A X) where
   pub record Sound (h : Head A) (hs : ℕ → Type 0) (x : X) : Type 0 where
     pub always : K.Always x
     pub near : (s : ℕ) → hs s → Near h s
-    pub byHead : ByHead h hs x
+    pub by_head : ByHead h hs x

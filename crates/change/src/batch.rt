@@ -6,7 +6,7 @@ ghost use Rattle.table.specs.Layout.{value_in};
 ghost use Rattle.table.specs.Update.{update};
 ghost use Rattle.stage.specs.Stages.{put_in};
 ghost use Rattle.change.specs.Index.{refuses as refusedIn, backfilled};
-ghost use Rattle.change.specs.Protocol.{whyNotFill, whyNotClear};
+ghost use Rattle.change.specs.Protocol.{why_not_fill, why_not_clear};
 ghost use Rattle.change.specs.Heads.{head_of, numbered, work_on, Worked};
 ghost use Rattle.change.specs.Batches.{filled_n, cleared_n};
 
@@ -83,7 +83,7 @@ fn cleanup(head: Index, entries: &mut Entries, count: u16) -> Index
 
 /// Why backfill may not go on, if it may not.
 pub fn why_not_fill(head: Index, alone: bool) -> Option<Refusal>
-    ensures why { numbered result ≡ whyNotFill 4096 alone (head_of head) }
+    ensures why { numbered result ≡ why_not_fill 4096 alone (head_of head) }
     ensures stands { result ≡ None → (head.way ≡ Way.Up Stage.WriteOnly) × (head.done < 4096) }
 {
     match (head.way, alone) {
@@ -96,7 +96,7 @@ pub fn why_not_fill(head: Index, alone: bool) -> Option<Refusal>
 
 /// Why cleanup may not go on, if it may not.
 pub fn why_not_clear(head: Index, alone: bool) -> Option<Refusal>
-    ensures why { numbered result ≡ whyNotClear 4096 alone (head_of head) }
+    ensures why { numbered result ≡ why_not_clear 4096 alone (head_of head) }
     ensures stands { result ≡ None → (head.way ≡ Way.Down Stage.DeleteOnly) × (head.done < 4096) }
 {
     match (head.way, alone) {
@@ -115,7 +115,7 @@ pub fn fill(
     entries: &mut Entries,
     count: u16,
 ) -> Result<Index, Refusal>
-    ensures { Worked result (whyNotFill 4096 alone (head_of head)) (entry_of entries.old) (entry_of entries.new) (filled_n 4096 (λ k. value_in head.column.number (row_of rows.now k)) count (work_on head (entry_of entries.old))) }
+    ensures { Worked result (why_not_fill 4096 alone (head_of head)) (entry_of entries.old) (entry_of entries.new) (filled_n 4096 (λ k. value_in head.column.number (row_of rows.now k)) count (work_on head (entry_of entries.old))) }
 {
     match why_not_fill(head, alone) {
         Some(refusal) => Err(refusal),
@@ -125,7 +125,7 @@ pub fn fill(
 
 /// Cleanup over the next `count` keys.
 pub fn clear(head: Index, alone: bool, entries: &mut Entries, count: u16) -> Result<Index, Refusal>
-    ensures { Worked result (whyNotClear 4096 alone (head_of head)) (entry_of entries.old) (entry_of entries.new) (cleared_n 4096 count (work_on head (entry_of entries.old))) }
+    ensures { Worked result (why_not_clear 4096 alone (head_of head)) (entry_of entries.old) (entry_of entries.new) (cleared_n 4096 count (work_on head (entry_of entries.old))) }
 {
     match why_not_clear(head, alone) {
         Some(refusal) => Err(refusal),

@@ -2,7 +2,7 @@
 
 ghost use Rattle.std.specs.Prelude.{◌≡◌, ℕ, ◌+◌, ◌<◌, ◌≤◌, Bool, true, false, cond, Some, None};
 ghost use Rattle.stage.specs.Stages.{rank};
-ghost use Rattle.change.specs.Protocol.{there, up as upward, stageOf, raised, turnedDown, lowered, whyNotUp, whyNotTurn, whyNotDown};
+ghost use Rattle.change.specs.Protocol.{there, up as upward, stage_of, raised, turned_down, lowered, why_not_up, why_not_turn, why_not_down};
 ghost use Rattle.change.specs.Heads.{head_of, head_by, slot_of, about_of, number_of, Stepped};
 
 use keyset::KEYS;
@@ -51,7 +51,7 @@ impl Index {
 
     /// The stage that the change has come to.
     pub fn stage(&self) -> Stage
-        ensures { rank result ≡ stageOf (head_of self.now) }
+        ensures { rank result ≡ stage_of (head_of self.now) }
     {
         match self.way {
             Way::Up(stage) | Way::Down(stage) => stage,
@@ -72,7 +72,7 @@ impl Index {
 
 /// The change goes up a stage; `alone` says that every running lease is of its stage.
 pub fn up(head: Index, alone: bool) -> Result<Index, Refusal>
-    ensures { Stepped head_of result (whyNotUp 4096 alone (head_of head)) (raised (head_of head)) }
+    ensures { Stepped head_of result (why_not_up 4096 alone (head_of head)) (raised (head_of head)) }
 {
     match (head.way, alone) {
         (Way::Up(Stage::Absent), true) => Ok(head.at(Way::Up(Stage::DeleteOnly))),
@@ -89,7 +89,7 @@ pub fn up(head: Index, alone: bool) -> Result<Index, Refusal>
 
 /// The change turns, and goes down from now on.
 pub fn turn(head: Index, alone: bool) -> Result<Index, Refusal>
-    ensures { Stepped head_of result (whyNotTurn alone (head_of head)) (turnedDown (head_of head)) }
+    ensures { Stepped head_of result (why_not_turn alone (head_of head)) (turned_down (head_of head)) }
 {
     match (head.way, alone) {
         (Way::Up(stage), true) => Ok(head.at(Way::Down(stage))),
@@ -100,7 +100,7 @@ pub fn turn(head: Index, alone: bool) -> Result<Index, Refusal>
 
 /// The change goes down a stage; from the first one the index is gone.
 pub fn down(head: Index, alone: bool) -> Result<Option<Index>, Refusal>
-    ensures { Stepped slot_of result (whyNotDown 4096 alone (head_of head)) (lowered (head_of head)) }
+    ensures { Stepped slot_of result (why_not_down 4096 alone (head_of head)) (lowered (head_of head)) }
 {
     match (head.way, alone) {
         (Way::Down(Stage::Public), true) => Ok(Some(head.at(Way::Down(Stage::WriteOnly)))),

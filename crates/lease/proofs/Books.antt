@@ -113,25 +113,25 @@ noted_once long n ls o = ((λ k a e f. let h = (left_was long n k ls a).1 in let
 
 -- nothing is forgotten: a lease that stays counts as before, and one that goes adds nothing to the new one
 module _ (h k : Bool) where
-  or-stays : (x y : Bool) → (x || h) ≡ (x || k) → (x || (y || h)) ≡ (x || (y || k))
-  or-stays true y e = refl
-  or-stays false true e = refl
-  or-stays false false e = e
+  or_stays : (x y : Bool) → (x || h) ≡ (x || k) → (x || (y || h)) ≡ (x || (y || k))
+  or_stays true y e = refl
+  or_stays false true e = refl
+  or_stays false false e = e
 
-  or-goes : (x y : Bool) → (y ≡ true → x ≡ true) → (x || h) ≡ (x || k) → (x || h) ≡ (x || (y || k))
-  or-goes true y f e = refl
-  or-goes false true f e = absurd (false≢true (f refl))
-  or-goes false false f e = e
+  or_goes : (x y : Bool) → (y ≡ true → x ≡ true) → (x || h) ≡ (x || k) → (x || h) ≡ (x || (y || k))
+  or_goes true y f e = refl
+  or_goes false true f e = absurd (false≢true (f refl))
+  or_goes false false f e = e
 
-  and-stays : (x y : Bool) → (x && h) ≡ (x && k) → (x && (y && h)) ≡ (x && (y && k))
-  and-stays false y e = refl
-  and-stays true false e = refl
-  and-stays true true e = e
+  and_stays : (x y : Bool) → (x && h) ≡ (x && k) → (x && (y && h)) ≡ (x && (y && k))
+  and_stays false y e = refl
+  and_stays true false e = refl
+  and_stays true true e = e
 
-  and-goes : (x y : Bool) → (x ≡ true → y ≡ true) → (x && h) ≡ (x && k) → (x && h) ≡ (x && (y && k))
-  and-goes false y f e = refl
-  and-goes true false f e = absurd (false≢true (f refl))
-  and-goes true true f e = e
+  and_goes : (x y : Bool) → (x ≡ true → y ≡ true) → (x && h) ≡ (x && k) → (x && h) ≡ (x && (y && k))
+  and_goes false y f e = refl
+  and_goes true false f e = absurd (false≢true (f refl))
+  and_goes true true f e = e
 
 module _ (long : ℕ) (n : Lease) (t : ℕ) (after : n.since ≤ t) where
   -- a lease that goes is over, or of the new one's office and stages
@@ -145,9 +145,9 @@ module _ (long : ℕ) (n : Lease) (t : ℕ) (after : n.since ≤ t) where
   abbrev Old : List Lease → Type 0
   Old ls = (l : Lease) → Among l ls → l.since ≤ n.since
 
-  held-goes : (o : ℕ) (ss : List ℕ) (l : Lease) → l.since ≤ n.since → (runs long t l ≡ false) ⊎ ((l.office ≡ n.office) × (l.stages ≡ n.stages)) → stands long t o ss l ≡ true → stands long t o ss n ≡ true
-  held-goes o ss l old (inl over) e = absurd (grind arith)
-  held-goes o ss l old (inr (f, g)) e = let (p, q) = is_of_lem o ss l (grind arith) in let z = of_is o ss n (sym f ∙ p) (sym g ∙ q) in grind arith
+  held_goes : (o : ℕ) (ss : List ℕ) (l : Lease) → l.since ≤ n.since → (runs long t l ≡ false) ⊎ ((l.office ≡ n.office) × (l.stages ≡ n.stages)) → stands long t o ss l ≡ true → stands long t o ss n ≡ true
+  held_goes o ss l old (inl over) e = absurd (grind arith)
+  held_goes o ss l old (inr (f, g)) e = let (p, q) = is_of_lem o ss l (grind arith) in let z = of_is o ss n (sym f ∙ p) (sym g ∙ q) in grind arith
 
   held_same : (o : ℕ) (ss : List ℕ) (ls : List Lease) → Old ls → holds long t o ss (noted long n ls) ≡ holds long t o ss (n ∷ ls)
   unfolding holds left_beside
@@ -155,13 +155,13 @@ module _ (long : ℕ) (n : Lease) (t : ℕ) (after : n.since ≤ t) where
   held_same o ss (l ∷ ls) old = go (stays long n l) refl (held_same o ss ls (λ k a. old k (Memᴰ.tail a)))
     where
       go : (b : Bool) → stays long n l ≡ b → holds long t o ss (noted long n ls) ≡ holds long t o ss (n ∷ ls) → holds long t o ss (n ∷ cond b (l ∷ left_beside long n ls) (left_beside long n ls)) ≡ holds long t o ss (n ∷ l ∷ ls)
-      go true e ih = or-stays (holds long t o ss (left_beside long n ls)) (holds long t o ss ls) (stands long t o ss n) (stands long t o ss l) ih
-      go false e ih = or-goes (holds long t o ss (left_beside long n ls)) (holds long t o ss ls) (stands long t o ss n) (stands long t o ss l) (held-goes o ss l (old l (Memᴰ.head refl)) (goes l e)) ih
+      go true e ih = or_stays (holds long t o ss (left_beside long n ls)) (holds long t o ss ls) (stands long t o ss n) (stands long t o ss l) ih
+      go false e ih = or_goes (holds long t o ss (left_beside long n ls)) (holds long t o ss ls) (stands long t o ss n) (stands long t o ss l) (held_goes o ss l (old l (Memᴰ.head refl)) (goes l e)) ih
 
-  all-goes : (i s : ℕ) (l : Lease) → l.since ≤ n.since → (runs long t l ≡ false) ⊎ ((l.office ≡ n.office) × (l.stages ≡ n.stages))
+  all_goes : (i s : ℕ) (l : Lease) → l.since ≤ n.since → (runs long t l ≡ false) ⊎ ((l.office ≡ n.office) × (l.stages ≡ n.stages))
       → is_at long t i s n ≡ true → is_at long t i s l ≡ true
-  all-goes i s l old (inl over) e = grind arith
-  all-goes i s l old (inr (f, g)) e = let z : stage_at l.stages i ≡ stage_at n.stages i = ap (λ ss. stage_at ss i) g in grind arith
+  all_goes i s l old (inl over) e = grind arith
+  all_goes i s l old (inr (f, g)) e = let z : stage_at l.stages i ≡ stage_at n.stages i = ap (λ ss. stage_at ss i) g in grind arith
 
   all_same : (i s : ℕ) (ls : List Lease) → Old ls → all_at long t i s (noted long n ls) ≡ all_at long t i s (n ∷ ls)
   unfolding all_at left_beside
@@ -169,8 +169,8 @@ module _ (long : ℕ) (n : Lease) (t : ℕ) (after : n.since ≤ t) where
   all_same i s (l ∷ ls) old = go (stays long n l) refl (all_same i s ls (λ k a. old k (Memᴰ.tail a)))
     where
       go : (b : Bool) → stays long n l ≡ b → all_at long t i s (noted long n ls) ≡ all_at long t i s (n ∷ ls) → all_at long t i s (n ∷ cond b (l ∷ left_beside long n ls) (left_beside long n ls)) ≡ all_at long t i s (n ∷ l ∷ ls)
-      go true e ih = and-stays (all_at long t i s (left_beside long n ls)) (all_at long t i s ls) (is_at long t i s n) (is_at long t i s l) ih
-      go false e ih = and-goes (all_at long t i s (left_beside long n ls)) (all_at long t i s ls) (is_at long t i s n) (is_at long t i s l) (all-goes i s l (old l (Memᴰ.head refl)) (goes l e)) ih
+      go true e ih = and_stays (all_at long t i s (left_beside long n ls)) (all_at long t i s ls) (is_at long t i s n) (is_at long t i s l) ih
+      go false e ih = and_goes (all_at long t i s (left_beside long n ls)) (all_at long t i s ls) (is_at long t i s n) (is_at long t i s l) (all_goes i s l (old l (Memᴰ.head refl)) (goes l e)) ih
 
 pub book_tells : BookTells
 book_tells long n ls old t after = ((λ o ss. held_same long n t after o ss ls old), (λ i s. all_same long n t after i s ls old))

@@ -22,8 +22,8 @@ one_less g zero = inr (mul-zero g)
 one_less g (suc l) = let e : suc l - 1 ≡ l = omega arith in inl (rw (e, mul-suc))
 
 module _ (long : ℕ) (p : Times) (fit : Fit long p) where
-  pub still-runs : StillRuns long p
-  still-runs office store u a b c co cs ub ab bc act = elim (dec_lt (store c) (store b + long)) [ yes h ↦ h | no h ↦ absurd (late (omega arith)) ]
+  pub still_runs : StillRuns long p
+  still_runs office store u a b c co cs ub ab bc act = elim (dec_lt (store c) (store b + long)) [ yes h ↦ h | no h ↦ absurd (late (omega arith)) ]
     where
       late : store b + long ≤ store c → ⊥
       late h =
@@ -42,8 +42,8 @@ module _ (long : ℕ) (p : Times) (fit : Fit long p) where
           numbers (1000000 + p.rate) (1000000 - p.rate) (1000000 * g) p.short (long - 1) (c - b) (c - a) (omega arith) (omega arith) (omega arith) (omega arith) fit.within
 
   -- a coming up is like a grant at a clock of 0
-  still-quiet : StillQuiet long p
-  still-quiet office store a u c co cs at-0 au uc act = let z = still-runs office store u a u c co cs (omega arith) au uc act in omega arith
+  still_quiet : StillQuiet long p
+  still_quiet office store a u c co cs at-0 au uc act = let z = still_runs office store u a u c co cs (omega arith) au uc act in omega arith
 
 pub clock_law : ClockLaw
-clock_law long p fit = (still-runs long p fit, still-quiet long p fit)
+clock_law long p fit = (still_runs long p fit, still_quiet long p fit)

@@ -43,19 +43,19 @@ same_lists (x ∷ xs) (y ∷ ys) e f = let h : x ≡ y = f 0 in let t = same_lis
 
 module _ (offices indexes : ℕ) where
   -- leases that are the same from index n on
-  by-stages : (n : ℕ) (ls : List Lease) → Once ls → OneApart ls → ((l : Lease) → Among l ls → InRange offices indexes l)
+  by_stages : (n : ℕ) (ls : List Lease) → Once ls → OneApart ls → ((l : Lease) → Among l ls → InRange offices indexes l)
       → ((l k : Lease) → Among l ls → Among k ls → (i : ℕ) → n ≤ i → stage_at l.stages i ≡ stage_at k.stages i) → length ls ≤ offices * 2 ^ n
-  by-stages zero ls o apart range same =
+  by_stages zero ls o apart range same =
       let h = by_office_lem offices ls o (λ l a. (range l a).0) (λ l k a b. same_lists l.stages k.stages ((range l a).1 ∙ sym (range k b).1) (λ i. same l k a b i (omega arith))) in
       let e = mul-one offices in
       omega arith
-  by-stages (suc n) [] o apart range same = omega arith
-  by-stages (suc n) (f ∷ fs) o apart range same =
+  by_stages (suc n) [] o apart range same = omega arith
+  by_stages (suc n) (f ∷ fs) o apart range same =
       let ls = f ∷ fs in
       let s = stage_at f.stages n in
       let near : (l : Lease) → Among l ls → (stage_at l.stages n ≤ s + 1) × (s ≤ stage_at l.stages n + 1) = λ l a. (apart l f a (Memᴰ.head refl) n, apart f l (Memᴰ.head refl) a n) in
       let half : (p : Lease → Bool) → ((l k : Lease) → Among l ls → Among k ls → p l ≡ true → p k ≡ true → stage_at l.stages n ≡ stage_at k.stages n) → length (pick p ls) ≤ offices * 2 ^ n = λ p alike.
-      by-stages n (pick p ls) (pick_once p ls o)
+      by_stages n (pick p ls) (pick_once p ls o)
       (λ l k a b. apart l k (picked p l ls a).0 (picked p k ls b).0) (λ l a. range l (picked p l ls a).0)
       (λ l k a b i q. let (al, pl) = picked p l ls a in let (bk, pk) = picked p k ls b in let here = alike l k al bk pl pk in
       place (stage_at l.stages) (stage_at k.stages) n i q here (same l k al bk i)) in
@@ -70,8 +70,8 @@ module _ (offices indexes : ℕ) where
       place : (g h : ℕ → ℕ) (n i : ℕ) → n ≤ i → g n ≡ h n → (suc n ≤ i → g i ≡ h i) → g i ≡ h i
       place g h n i q e f = grind arith
 
-pub book_small : BookSmall
-book_small offices indexes ls o apart range = by-stages offices indexes indexes ls o apart range (λ l k a b i q. beyond l.stages k.stages i (range l a).1 (range k b).1 q)
+pub book_small_lem : BookSmall
+book_small_lem offices indexes ls o apart range = by_stages offices indexes indexes ls o apart range (λ l k a b i q. beyond l.stages k.stages i (range l a).1 (range k b).1 q)
   where
     beyond : (xs ys : List ℕ) (i : ℕ) → length xs ≡ indexes → length ys ≡ indexes → indexes ≤ i → get_or xs i 0 ≡ get_or ys i 0
     beyond xs ys i e f q = get_or-eq_default xs 0 {n = i} (omega arith) ∙ sym (get_or-eq_default ys 0 {n = i} (omega arith))

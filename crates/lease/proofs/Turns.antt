@@ -22,14 +22,14 @@ unfolding same_list
 same_none ss ts n h k = rw (drop_all n ss h, drop_all n ts k)
 
 module _ (long t : ℕ) (ls : List Lease) (n : ℕ) where
-  pub holds-left : (o : ℕ) (ss : List ℕ) → n < length ls →
+  pub holds_left : (o : ℕ) (ss : List ℕ) → n < length ls →
       holds long t o ss (book_of (drop n ls)) ≡ stands long t o ss (lease_of (get_or ls n any)) || holds long t o ss (book_of (drop (n + 1) ls))
   unfolding holds
-  holds-left o ss h = at_drop_more (λ (x : List Lease). holds long t o ss (book_of x)) ls n any h
+  holds_left o ss h = at_drop_more (λ (x : List Lease). holds long t o ss (book_of x)) ls n any h
 
-  pub holds-none : (o : ℕ) (ss : List ℕ) → length ls ≤ n → holds long t o ss (book_of (drop n ls)) ≡ false
+  pub holds_none : (o : ℕ) (ss : List ℕ) → length ls ≤ n → holds long t o ss (book_of (drop n ls)) ≡ false
   unfolding holds
-  holds-none o ss h = at_drop_all (λ (x : List Lease). holds long t o ss (book_of x)) ls n h
+  holds_none o ss h = at_drop_all (λ (x : List Lease). holds long t o ss (book_of x)) ls n h
 
   pub all_left : (i s : ℕ) → n < length ls →
       all_at long t i s (book_of (drop n ls)) ≡ is_at long t i s (lease_of (get_or ls n any)) && all_at long t i s (book_of (drop (n + 1) ls))
@@ -41,20 +41,20 @@ module _ (long t : ℕ) (ls : List Lease) (n : ℕ) where
   all_none i s h = at_drop_all (λ (x : List Lease). all_at long t i s (book_of x)) ls n h
 
 module _ (o : ℕ) (ls : List Lease) (n : ℕ) where
-  pub newest-left : n < length ls →
+  pub newest_left : n < length ls →
       newest_of o (book_of (drop n ls)) ≡ cond (eqb (get_or ls n any).office o) (Some (ranks (get_or ls n any).stages)) (newest_of o (book_of (drop (n + 1) ls)))
   unfolding newest_of
-  newest-left h = at_drop_more (λ (x : List Lease). newest_of o (book_of x)) ls n any h
+  newest_left h = at_drop_more (λ (x : List Lease). newest_of o (book_of x)) ls n any h
 
-  pub newest-none : length ls ≤ n → newest_of o (book_of (drop n ls)) ≡ None
+  pub newest_none : length ls ≤ n → newest_of o (book_of (drop n ls)) ≡ None
   unfolding newest_of
-  newest-none h = at_drop_all (λ (x : List Lease). newest_of o (book_of x)) ls n h
+  newest_none h = at_drop_all (λ (x : List Lease). newest_of o (book_of x)) ls n h
 
 module _ (long : ℕ) (new : rules.Lease) (ls : List Lease) (n : ℕ) where
-  pub beside-left : n < length ls →
+  pub beside_left : n < length ls →
       left_beside long new (book_of (drop n ls)) ≡ cond (stays long new (lease_of (get_or ls n any))) (lease_of (get_or ls n any) ∷ left_beside long new (book_of (drop (n + 1) ls))) (left_beside long new (book_of (drop (n + 1) ls)))
   unfolding left_beside
-  beside-left h = at_drop_more (λ (x : List Lease). left_beside long new (book_of x)) ls n any h
+  beside_left h = at_drop_more (λ (x : List Lease). left_beside long new (book_of x)) ls n any h
 
   pub beside_none : length ls ≤ n → left_beside long new (book_of (drop n ls)) ≡ []
   unfolding left_beside

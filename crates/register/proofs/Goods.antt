@@ -3,7 +3,7 @@ use Rattle.std.proofs.Common.{◌≡◌, ℕ, zero, suc, ◌<◌, ◌≤◌, Boo
 use mathlib.Core.Path.{fun_ext}
 use Rattle.table.specs.declared.row.Row.{Row}
 use Rattle.table.specs.Update.{update}
-use Rattle.change.specs.Protocol.{Head, gone, there, up, stageOf, done_of, raised, turnedDown, lowered, onward, whyNotMake, whyNotUp, whyNotTurn, whyNotDown, whyNotFill, whyNotClear, AllAt, Sound}
+use Rattle.change.specs.Protocol.{Head, gone, there, up, stage_of, done_of, raised, turned_down, lowered, onward, why_not_make, why_not_up, why_not_turn, why_not_down, why_not_fill, why_not_clear, AllAt, Sound}
 use Rattle.change.specs.Index as index
 use Rattle.change.specs.Index.{About, Part, refuses, entries_written, backfilled, cleaned_up, must_turn}
 use Rattle.change.proofs.Protocol as protocol
@@ -48,36 +48,36 @@ same_rows row h k n = fun_ext (λ j. at (eqb j k) j)
 
 -- one index, whose part is what its head sees
 module _ {keys : ℕ} (row : ℕ → Option Row) {hs : ℕ → Type 0} {es : ℕ → Option ℕ} where
-  made-fine : (h : Head About) (a : About) → ((k : ℕ) → keys ≤ k → row k ≡ None) → whyNotMake h ≡ None → Fine keys h hs row es → Fine keys (there a up 0 0) hs row es
-  made-fine h a none e g =
-      protocol.make (kind keys) h a _ e (λ k l. (let z = none k l in grind arith, (g.always k l).1)) (protocol.gone-none (kind keys) h e g) g
+  made_fine : (h : Head About) (a : About) → ((k : ℕ) → keys ≤ k → row k ≡ None) → why_not_make h ≡ None → Fine keys h hs row es → Fine keys (there a up 0 0) hs row es
+  made_fine h a none e g =
+      protocol.make (kind keys) h a _ e (λ k l. (let z = none k l in grind arith, (g.always k l).1)) (protocol.gone_none (kind keys) h e g) g
 
-  raised-fine : (h : Head About) → whyNotUp keys true h ≡ None → AllAt (stageOf h) hs → Fine keys h hs row es → Fine keys (raised h) hs row es
-  raised-fine gone e all g = g
-  raised-fine (there a w s d) e all g = protocol.raise (kind keys) true (there a w s d) e (λ _. all) g
+  raised_fine : (h : Head About) → why_not_up keys true h ≡ None → AllAt (stage_of h) hs → Fine keys h hs row es → Fine keys (raised h) hs row es
+  raised_fine gone e all g = g
+  raised_fine (there a w s d) e all g = protocol.raise (kind keys) true (there a w s d) e (λ _. all) g
 
-  turned-fine : (h : Head About) → whyNotTurn true h ≡ None → AllAt (stageOf h) hs → Fine keys h hs row es → Fine keys (turnedDown h) hs row es
-  turned-fine gone e all g = g
-  turned-fine (there a w s d) e all g = protocol.turn (kind keys) true (there a w s d) e (λ _. all) g
+  turned_fine : (h : Head About) → why_not_turn true h ≡ None → AllAt (stage_of h) hs → Fine keys h hs row es → Fine keys (turned_down h) hs row es
+  turned_fine gone e all g = g
+  turned_fine (there a w s d) e all g = protocol.turn (kind keys) true (there a w s d) e (λ _. all) g
 
-  lowered-fine : (h : Head About) → whyNotDown keys true h ≡ None → AllAt (stageOf h) hs → Fine keys h hs row es → Fine keys (lowered h) hs row es
-  lowered-fine gone e all g = g
-  lowered-fine (there a w zero d) e all g =
+  lowered_fine : (h : Head About) → why_not_down keys true h ≡ None → AllAt (stage_of h) hs → Fine keys h hs row es → Fine keys (lowered h) hs row es
+  lowered_fine gone e all g = g
+  lowered_fine (there a w zero d) e all g =
       let f = protocol.lower (kind keys) true (there a w zero d) e (λ _. all) g in
-      record { always = λ k l. (refl, (f.always k l).1); near = f.near; byHead = f.byHead }
-  lowered-fine (there a w (suc s) d) e all g = protocol.lower (kind keys) true (there a w (suc s) d) e (λ _. all) g
+      record { always = λ k l. (refl, (f.always k l).1); near = f.near; by_head = f.by_head }
+  lowered_fine (there a w (suc s) d) e all g = protocol.lower (kind keys) true (there a w (suc s) d) e (λ _. all) g
 
-  filled-fine : (h : Head About) → whyNotFill keys true h ≡ None → AllAt (stageOf h) hs → must_turn keys (λ k. cell_of h (row k)) es h ≡ false → Fine keys h hs row es → Fine keys (onward h) hs row (backfilled (done_of h) (λ k. cell_of h (row k)) es)
-  filled-fine gone e all free g = absurd (grind arith)
-  filled-fine (there a w s d) e all free g = protocol.fill (kind keys) true _ (there a w s d) e (λ _. all) (index.fills free) g
+  filled_fine : (h : Head About) → why_not_fill keys true h ≡ None → AllAt (stage_of h) hs → must_turn keys (λ k. cell_of h (row k)) es h ≡ false → Fine keys h hs row es → Fine keys (onward h) hs row (backfilled (done_of h) (λ k. cell_of h (row k)) es)
+  filled_fine gone e all free g = absurd (grind arith)
+  filled_fine (there a w s d) e all free g = protocol.fill (kind keys) true _ (there a w s d) e (λ _. all) (index.fills free) g
 
-  cleared-fine : (h : Head About) → whyNotClear keys true h ≡ None → AllAt (stageOf h) hs → Fine keys h hs row es → Fine keys (onward h) hs row (cleaned_up (done_of h) es)
-  cleared-fine gone e all g = absurd (grind arith)
-  cleared-fine (there a w s d) e all g = protocol.clear (kind keys) true _ (there a w s d) e (λ _. all) index.clears g
+  cleared_fine : (h : Head About) → why_not_clear keys true h ≡ None → AllAt (stage_of h) hs → Fine keys h hs row es → Fine keys (onward h) hs row (cleaned_up (done_of h) es)
+  cleared_fine gone e all g = absurd (grind arith)
+  cleared_fine (there a w s d) e all g = protocol.clear (kind keys) true _ (there a w s d) e (λ _. all) index.clears g
 
-  written-fine : (h : Head About) (s k : ℕ) (n : Option Row) → k < keys → hs s → refuses keys h s k (cell_of h n) es ≡ false → Fine keys h hs row es
+  written_fine : (h : Head About) (s k : ℕ) (n : Option Row) → k < keys → hs s → refuses keys h s k (cell_of h n) es ≡ false → Fine keys h hs row es
       → Fine keys h hs (update k n row) (entries_written s k (cell_of h n) (λ j. cell_of h (row j)) es)
-  written-fine h s k n l held free g =
+  written_fine h s k n l held free g =
       let f = protocol.write (kind keys) _ h s held (index.writes k (cell_of h n) l free) g in
       let after = entries_written s k (cell_of h n) (λ j. cell_of h (row j)) es in
       subst (λ rows. Sound (kind keys) h hs (record { rows = rows; entries = after })) (same_rows row h k n) f
@@ -88,49 +88,49 @@ module _ (keys indexes columns : ℕ) (hs : ℕ → ℕ → Type 0) where
   Allowed (put k n ss) r = ((i : ℕ) → hs i (get_or ss i 0)) × ((i : ℕ) → refuses keys (r.head i) (get_or ss i 0) k (cell_of (r.head i) (Some n)) (r.entry i) ≡ false)
   Allowed (removed k ss) r = (i : ℕ) → hs i (get_or ss i 0)
   Allowed (made i c u) r = Unit {0}
-  Allowed (went_up i) r = AllAt (stageOf (r.head i)) (hs i)
-  Allowed (turned i) r = AllAt (stageOf (r.head i)) (hs i)
-  Allowed (went_down i) r = AllAt (stageOf (r.head i)) (hs i)
-  Allowed (filled i k) r = AllAt (stageOf (r.head i)) (hs i)
-  Allowed (cleared i k) r = AllAt (stageOf (r.head i)) (hs i)
+  Allowed (went_up i) r = AllAt (stage_of (r.head i)) (hs i)
+  Allowed (turned i) r = AllAt (stage_of (r.head i)) (hs i)
+  Allowed (went_down i) r = AllAt (stage_of (r.head i)) (hs i)
+  Allowed (filled i k) r = AllAt (stage_of (r.head i)) (hs i)
+  Allowed (cleared i k) r = AllAt (stage_of (r.head i)) (hs i)
   Allowed came_up r = Unit {0}
 
-  none-taken : (h : Head About) (s k : ℕ) (es : ℕ → Option ℕ) → refuses keys h s k (cell_of h None) es ≡ false
-  none-taken h s k es = grind arith
+  none_taken : (h : Head About) (s k : ℕ) (es : ℕ → Option ℕ) → refuses keys h s k (cell_of h None) es ≡ false
+  none_taken h s k es = grind arith
 
   module _ (r : Register) (g : Good keys indexes hs r) where
-    head-good : (i : ℕ) (h : Head About) → i < indexes → Fine keys h (hs i) r.row (r.entry i) → Good keys indexes hs (with_head i h r)
-    head-good i h l new = record {
+    head_good : (i : ℕ) (h : Head About) → i < indexes → Fine keys h (hs i) r.row (r.entry i) → Good keys indexes hs (with_head i h r)
+    head_good i h l new = record {
       no_index = at_one (λ j x. indexes ≤ j → x ≡ gone) i h r.head (λ q. absurd (omega arith)) g.no_index;
       no_row = g.no_row;
       sound = at_one (λ j x. Fine keys x (hs j) r.row (r.entry j)) i h r.head new g.sound;
     }
 
-    worked-good : (i : ℕ) (es : ℕ → Option ℕ) → i < indexes → Fine keys (onward (r.head i)) (hs i) r.row es → Good keys indexes hs (worked_on i es r)
-    worked-good i es l new = record {
+    worked_good : (i : ℕ) (es : ℕ → Option ℕ) → i < indexes → Fine keys (onward (r.head i)) (hs i) r.row es → Good keys indexes hs (worked_on i es r)
+    worked_good i es l new = record {
       no_index = at_one (λ j x. indexes ≤ j → x ≡ gone) i (onward (r.head i)) r.head (λ q. absurd (omega arith)) g.no_index;
       no_row = g.no_row;
       sound = at_two (λ j x e. Fine keys x (hs j) r.row e) i (onward (r.head i)) r.head es r.entry new g.sound;
     }
 
-    wrote-good : (k : ℕ) (n : Option Row) (ss : List ℕ) → k < keys → ((i : ℕ) → hs i (get_or ss i 0)) → ((i : ℕ) → refuses keys (r.head i) (get_or ss i 0) k (cell_of (r.head i) n) (r.entry i) ≡ false) → Good keys indexes hs (wrote k n ss r)
-    wrote-good k n ss l held free = record {
+    wrote_good : (k : ℕ) (n : Option Row) (ss : List ℕ) → k < keys → ((i : ℕ) → hs i (get_or ss i 0)) → ((i : ℕ) → refuses keys (r.head i) (get_or ss i 0) k (cell_of (r.head i) n) (r.entry i) ≡ false) → Good keys indexes hs (wrote k n ss r)
+    wrote_good k n ss l held free = record {
       no_index = g.no_index;
       no_row = at_one (λ j x. keys ≤ j → x ≡ None) k n r.row (λ q. absurd (omega arith)) g.no_row;
-      sound = λ i. written-fine r.row (r.head i) (get_or ss i 0) k n l (held i) (free i) (g.sound i);
+      sound = λ i. written_fine r.row (r.head i) (get_or ss i 0) k n l (held i) (free i) (g.sound i);
     }
 
-    pub record-good : (x : Record) → doable keys indexes columns x r ≡ true → Allowed x r → Good keys indexes hs (applied x r)
-    record-good (put k n ss) e (held, free) = wrote-good k (Some n) ss (grind arith) held free
-    record-good (removed k ss) e held = wrote-good k None ss (grind arith) held (λ i. none-taken (r.head i) (get_or ss i 0) k (r.entry i))
-    record-good (made i c u) e all = head-good i _ (grind arith) (made-fine r.row (r.head i) _ g.no_row (grind arith) (g.sound i))
-    record-good (went_up i) e all = head-good i _ (grind arith) (raised-fine r.row (r.head i) (grind arith) all (g.sound i))
-    record-good (turned i) e all = head-good i _ (grind arith) (turned-fine r.row (r.head i) (grind arith) all (g.sound i))
-    record-good (went_down i) e all = head-good i _ (grind arith) (lowered-fine r.row (r.head i) (grind arith) all (g.sound i))
-    record-good (filled i k) e all =
+    pub record_good : (x : Record) → doable keys indexes columns x r ≡ true → Allowed x r → Good keys indexes hs (applied x r)
+    record_good (put k n ss) e (held, free) = wrote_good k (Some n) ss (grind arith) held free
+    record_good (removed k ss) e held = wrote_good k None ss (grind arith) held (λ i. none_taken (r.head i) (get_or ss i 0) k (r.entry i))
+    record_good (made i c u) e all = head_good i _ (grind arith) (made_fine r.row (r.head i) _ g.no_row (grind arith) (g.sound i))
+    record_good (went_up i) e all = head_good i _ (grind arith) (raised_fine r.row (r.head i) (grind arith) all (g.sound i))
+    record_good (turned i) e all = head_good i _ (grind arith) (turned_fine r.row (r.head i) (grind arith) all (g.sound i))
+    record_good (went_down i) e all = head_good i _ (grind arith) (lowered_fine r.row (r.head i) (grind arith) all (g.sound i))
+    record_good (filled i k) e all =
         let next : done_of (r.head i) ≡ k = grind arith in
-        worked-good i _ (grind arith) (subst (λ k. Fine keys (onward (r.head i)) (hs i) r.row (backfilled k (rows_of i r) (r.entry i))) next (filled-fine r.row (r.head i) (grind arith) all (grind arith) (g.sound i)))
-    record-good (cleared i k) e all =
+        worked_good i _ (grind arith) (subst (λ k. Fine keys (onward (r.head i)) (hs i) r.row (backfilled k (rows_of i r) (r.entry i))) next (filled_fine r.row (r.head i) (grind arith) all (grind arith) (g.sound i)))
+    record_good (cleared i k) e all =
         let next : done_of (r.head i) ≡ k = grind arith in
-        worked-good i _ (grind arith) (subst (λ k. Fine keys (onward (r.head i)) (hs i) r.row (cleaned_up k (r.entry i))) next (cleared-fine r.row (r.head i) (grind arith) all (g.sound i)))
-    record-good came_up e all = record { no_index = g.no_index; no_row = g.no_row; sound = g.sound }
+        worked_good i _ (grind arith) (subst (λ k. Fine keys (onward (r.head i)) (hs i) r.row (cleaned_up k (r.entry i))) next (cleared_fine r.row (r.head i) (grind arith) all (g.sound i)))
+    record_good came_up e all = record { no_index = g.no_index; no_row = g.no_row; sound = g.sound }

@@ -11,7 +11,7 @@ use Rattle.change.specs.declared.kinds.Way.{Way}
 use Rattle.change.specs.declared.kinds.Way.TheVariants.{Up, Down}
 use Rattle.change.specs.declared.kinds.Index.{Index}
 use Rattle.change.specs.declared.kinds.Refusal.{Refusal}
-use Rattle.change.specs.Protocol.{Head, done_of, onward, turnedDown, whyNotFill, whyNotClear, mayFill, mayClear}
+use Rattle.change.specs.Protocol.{Head, done_of, onward, turned_down, why_not_fill, why_not_clear, may_fill, may_clear}
 use Rattle.change.specs.Index.{About, refuses, must_turn, backfilled, cleaned_up, entries_filled, head_filled}
 use Rattle.change.specs.OneChange.{is_none}
 use Rattle.change.specs.Batches.{Work, filled_n, cleared_n, filled, cleared}
@@ -61,31 +61,31 @@ module _ (os : List Entries) (at : ℕ) (e f : Entries) (x : Index) (k : ℕ) (l
   refused : (same : entry_of f ≡ entry_of e) (n j : ℕ) → entry_in (set os at f) n j ≡ entry_in os n j
   refused same = same_back os at f l (λ j. ap (λ (g : ℕ → Option ℕ). g j) (same ∙ sym is))
 
-  pub cleared-one : (r : Result Index Refusal) → Worked r (whyNotClear 4096 true (head_of x)) (entry_of e) (entry_of f) (cleared_n 4096 1 (work_on x (entry_of e)))
-      → OneKey r (is_none (whyNotClear 4096 true (head_of x)) && eqb k (done_of (head_of x))) (head_of x) at (cleaned_up k (entry_in os at)) os (set os at f)
-  cleared-one (Ok y) (why, did) =
-      let m : mayClear 4096 (head_of x) ≡ true = may _ _ why in
-      let s = one_turn (λ w. mayClear 4096 w.head) cleared (work_on x (entry_of e)) (work_on y (entry_of f)) m did in (
+  pub cleared_one : (r : Result Index Refusal) → Worked r (why_not_clear 4096 true (head_of x)) (entry_of e) (entry_of f) (cleared_n 4096 1 (work_on x (entry_of e)))
+      → OneKey r (is_none (why_not_clear 4096 true (head_of x)) && eqb k (done_of (head_of x))) (head_of x) at (cleaned_up k (entry_in os at)) os (set os at f)
+  cleared_one (Ok y) (why, did) =
+      let m : may_clear 4096 (head_of x) ≡ true = may _ _ why in
+      let s = one_turn (λ w. may_clear 4096 w.head) cleared (work_on x (entry_of e)) (work_on y (entry_of f)) m did in (
         rw (why, eq-eqb k (done_of (head_of x)) next),
         ap (λ (w : Work). w.head) s,
         put_back os at f (cleaned_up k (entry_in os at)) l (λ j. ap (λ (w : Work). w.entries j) s ∙ sym (ap₂ (λ n g. cleaned_up n g j) next is)),
       )
-  cleared-one (Err z) (why, same) = (not_may _ _ _ why, refused same)
+  cleared_one (Err z) (why, same) = (not_may _ _ _ why, refused same)
 
-  pub filled-one : (rows : ℕ → Option ℕ) (r : Result Index Refusal) → must_turn 4096 rows (entry_of e) (head_of x) ≡ false
-      → Worked r (whyNotFill 4096 true (head_of x)) (entry_of e) (entry_of f) (filled_n 4096 rows 1 (work_on x (entry_of e)))
-      → OneKey r (is_none (whyNotFill 4096 true (head_of x)) && eqb k (done_of (head_of x)) && not (must_turn 4096 rows (entry_in os at) (head_of x))) (head_of x) at (backfilled k rows (entry_in os at)) os (set os at f)
-  filled-one rows (Ok y) free (why, did) =
-      let m : mayFill 4096 (head_of x) ≡ true = may _ _ why in
-      let s = one_turn (λ w. mayFill 4096 w.head) (filled 4096 rows) (work_on x (entry_of e)) (work_on y (entry_of f)) m did in
+  pub filled_one : (rows : ℕ → Option ℕ) (r : Result Index Refusal) → must_turn 4096 rows (entry_of e) (head_of x) ≡ false
+      → Worked r (why_not_fill 4096 true (head_of x)) (entry_of e) (entry_of f) (filled_n 4096 rows 1 (work_on x (entry_of e)))
+      → OneKey r (is_none (why_not_fill 4096 true (head_of x)) && eqb k (done_of (head_of x)) && not (must_turn 4096 rows (entry_in os at) (head_of x))) (head_of x) at (backfilled k rows (entry_in os at)) os (set os at f)
+  filled_one rows (Ok y) free (why, did) =
+      let m : may_fill 4096 (head_of x) ≡ true = may _ _ why in
+      let s = one_turn (λ w. may_fill 4096 w.head) (filled 4096 rows) (work_on x (entry_of e)) (work_on y (entry_of f)) m did in
       let t : must_turn 4096 rows (entry_in os at) (head_of x) ≡ false = ap (λ g. must_turn 4096 rows g (head_of x)) is ∙ free in (
         rw (why, eq-eqb k (done_of (head_of x)) next, t),
-        ap (λ (w : Work). w.head) s ∙ ap (λ b. cond b (turnedDown (head_of x)) (onward (head_of x))) free,
+        ap (λ (w : Work). w.head) s ∙ ap (λ b. cond b (turned_down (head_of x)) (onward (head_of x))) free,
         put_back os at f (backfilled k rows (entry_in os at)) l (λ j. ap (λ (w : Work). w.entries j) s
             ∙ ap (λ b. cond b (entry_of e j) (backfilled (done_of (head_of x)) rows (entry_of e) j)) free
             ∙ sym (ap₂ (λ n g. backfilled n rows g j) next is)),
       )
-  filled-one rows (Err z) free (why, same) = (rw (not_may _ _ (eqb k (done_of (head_of x))) why), refused same)
+  filled_one rows (Err z) free (why, same) = (rw (not_may _ _ (eqb k (done_of (head_of x))) why), refused same)
 
 -- what an index that is there has of a row
 cell_there : (x : Index) (r : Option Row) → cell_of (head_of x) r ≡ value_in x.column.number r
@@ -102,15 +102,15 @@ module _ (R : rules.Register) (i k : ℕ) (x : Index) (small : i < 8) (is : R.he
   same_rows : rows_of i R ≡ seen
   same_rows = fun_ext (λ j. ap (λ h. cell_of h (R.row j)) is ∙ cell_there x (R.row j))
 
-  pub can-clear : (b : Bool) → is_none (whyNotClear 4096 true (head_of x)) && eqb k (done_of (head_of x)) ≡ b → can_do (rules.cleared i k) R ≡ b
-  can-clear true m = rw (lt-ltb i 8 small, is, m)
-  can-clear false m = rw (lt-ltb i 8 small, is, m)
+  pub can_clear : (b : Bool) → is_none (why_not_clear 4096 true (head_of x)) && eqb k (done_of (head_of x)) ≡ b → can_do (rules.cleared i k) R ≡ b
+  can_clear true m = rw (lt-ltb i 8 small, is, m)
+  can_clear false m = rw (lt-ltb i 8 small, is, m)
 
-  pub can-fill : (b : Bool) → is_none (whyNotFill 4096 true (head_of x)) && eqb k (done_of (head_of x)) && not (must_turn 4096 seen (R.entry i) (head_of x)) ≡ b → can_do (rules.filled i k) R ≡ b
-  can-fill b m = go b m (rows_of i R) same_rows
+  pub can_fill : (b : Bool) → is_none (why_not_fill 4096 true (head_of x)) && eqb k (done_of (head_of x)) && not (must_turn 4096 seen (R.entry i) (head_of x)) ≡ b → can_do (rules.filled i k) R ≡ b
+  can_fill b m = go b m (rows_of i R) same_rows
     where
-      go : (b : Bool) → is_none (whyNotFill 4096 true (head_of x)) && eqb k (done_of (head_of x)) && not (must_turn 4096 seen (R.entry i) (head_of x)) ≡ b → (rows : ℕ → Option ℕ) → rows ≡ seen
-          → ltb i 8 && is_none (whyNotFill 4096 true (R.head i)) && eqb k (done_of (R.head i)) && not (must_turn 4096 rows (R.entry i) (R.head i)) && true ≡ b
+      go : (b : Bool) → is_none (why_not_fill 4096 true (head_of x)) && eqb k (done_of (head_of x)) && not (must_turn 4096 seen (R.entry i) (head_of x)) ≡ b → (rows : ℕ → Option ℕ) → rows ≡ seen
+          → ltb i 8 && is_none (why_not_fill 4096 true (R.head i)) && eqb k (done_of (R.head i)) && not (must_turn 4096 rows (R.entry i) (R.head i)) && true ≡ b
       go true m rows e = rw (lt-ltb i 8 small, is, e, m)
       go false m rows e = rw (lt-ltb i 8 small, is, e, m)
 
@@ -123,13 +123,13 @@ module _ (R : rules.Register) (i k : ℕ) (x : Index) (small : i < 8) (is : R.he
       epoch = R.epoch;
     }
 
-    pub did-clear : ((n j : ℕ) → fs n j ≡ update i (cleaned_up k (R.entry i)) R.entry n j)
+    pub did_clear : ((n j : ℕ) → fs n j ≡ update i (cleaned_up k (R.entry i)) R.entry n j)
         → ◌≡◌ {A = rules.Register} (record { row = R.row; entry = fs; head = update i (head_of y) R.head; epoch = R.epoch }) (applied (rules.cleared i k) R)
-    did-clear f = worked _ f
+    did_clear f = worked _ f
 
-    pub did-fill : ((n j : ℕ) → fs n j ≡ update i (backfilled k seen (R.entry i)) R.entry n j)
+    pub did_fill : ((n j : ℕ) → fs n j ≡ update i (backfilled k seen (R.entry i)) R.entry n j)
         → ◌≡◌ {A = rules.Register} (record { row = R.row; entry = fs; head = update i (head_of y) R.head; epoch = R.epoch }) (applied (rules.filled i k) R)
-    did-fill f = worked _ f ∙ ap (λ rows. worked_on i (backfilled k rows (R.entry i)) R) (sym same_rows)
+    did_fill f = worked _ f ∙ ap (λ rows. worked_on i (backfilled k rows (R.entry i)) R) (sym same_rows)
 
 -- the entries came back as they were
 pub left_alone : (R : rules.Register) (fs : ℕ → ℕ → Option ℕ) → ((n j : ℕ) → fs n j ≡ R.entry n j) → ◌≡◌ {A = rules.Register} (record { row = R.row; entry = fs; head = R.head; epoch = R.epoch }) R

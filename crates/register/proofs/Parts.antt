@@ -15,7 +15,7 @@ use Rattle.stage.proofs.Ranks.{rank_at}
 use Rattle.change.specs.declared.kinds.Index.{Index}
 use Rattle.change.specs.Index.{refuses}
 use Rattle.change.specs.Heads.{slot_of}
-use Rattle.change.specs.Protocol.{gone, stageOf}
+use Rattle.change.specs.Protocol.{gone, stage_of}
 use Rattle.register.specs.Registers.{Register, bare, cell_of, applied, replayed, all_stages, are_stages, wrote}
 use Rattle.register.specs.declared.kinds.Record as codes
 use Rattle.register.specs.Held.{entry_in, head_in, record_of, can_do, can_do_all}
@@ -117,20 +117,20 @@ refusal_at hs es ss k row n d e l m is =
     ∙ ap₂ (λ s f. refuses 4096 (head_in hs n) s k (cell_of (head_in hs n) (Some row)) f) (sym (rank_at ss n)) (sym (entries_read es n n e refl m is))
 
 -- the stage of one index, by what is read of it
-pub stage_read : (hs : List (Option Index)) (n : ℕ) (d : Option Index) (s : ℕ) → n < length hs → s ≡ stageOf (slot_of (get_or hs n d)) → s ≡ stageOf (head_in hs n)
-stage_read hs n d s l e = e ∙ ap (λ h. stageOf (slot_of h)) (get_or_default hs n d None l)
+pub stage_read : (hs : List (Option Index)) (n : ℕ) (d : Option Index) (s : ℕ) → n < length hs → s ≡ stage_of (slot_of (get_or hs n d)) → s ≡ stage_of (head_in hs n)
+stage_read hs n d s l e = e ∙ ap (λ h. stage_of (slot_of h)) (get_or_default hs n d None l)
 
 -- one record more: what is left decides
 module _ (xs : List codes.Record) (n : ℕ) (x : codes.Record) (R : Register) (l : n < length xs) (is : x ≡ get_or xs n x) where
-  pub can-left : can_do_all (map record_of (drop n xs)) R ≡ can_do (record_of x) R && can_do_all (map record_of (drop (n + 1) xs)) (applied (record_of x) R)
+  pub can_left : can_do_all (map record_of (drop n xs)) R ≡ can_do (record_of x) R && can_do_all (map record_of (drop (n + 1) xs)) (applied (record_of x) R)
   unfolding can_do_all
-  can-left =
+  can_left =
       at_drop_more (λ (ys : List codes.Record). can_do_all (map record_of ys) R) xs n x l
       ∙ ap (λ y. can_do (record_of y) R && can_do_all (map record_of (drop (n + 1) xs)) (applied (record_of y) R)) (sym is)
 
-  pub replay-left : replayed (map record_of (drop n xs)) R ≡ replayed (map record_of (drop (n + 1) xs)) (applied (record_of x) R)
+  pub replay_left : replayed (map record_of (drop n xs)) R ≡ replayed (map record_of (drop (n + 1) xs)) (applied (record_of x) R)
   unfolding replayed
-  replay-left =
+  replay_left =
       at_drop_more (λ (ys : List codes.Record). replayed (map record_of ys) R) xs n x l
       ∙ ap (λ y. replayed (map record_of (drop (n + 1) xs)) (applied (record_of y) R)) (sym is)
 

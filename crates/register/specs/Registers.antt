@@ -3,7 +3,7 @@ use Rattle.std.specs.Prelude.{◌≡◌, ℕ, zero, suc, ◌+◌, Bool, true, fa
 use Rattle.table.specs.declared.row.Row.{Row}
 use Rattle.table.specs.Update.{update}
 use Rattle.table.specs.Layout.{value_in}
-use Rattle.change.specs.Protocol.{Head, gone, there, up, stageOf, done_of, raised, turnedDown, lowered, onward, whyNotMake, whyNotUp, whyNotTurn, whyNotDown, whyNotFill, whyNotClear}
+use Rattle.change.specs.Protocol.{Head, gone, there, up, stage_of, done_of, raised, turned_down, lowered, onward, why_not_make, why_not_up, why_not_turn, why_not_down, why_not_fill, why_not_clear}
 use Rattle.change.specs.Index.{About, refuses, entries_written, backfilled, cleaned_up, must_turn}
 use Rattle.change.specs.OneChange.{is_none}
 
@@ -30,7 +30,7 @@ rows_of i r k = cell_of (r.head i) (r.row k)
 -- the stages of all indexes
 unfoldable pub stages_now : (indexes : ℕ) → Register → List ℕ
 stages_now zero r = []
-stages_now (suc n) r = stages_now n r ++ (stageOf (r.head n) ∷ [])
+stages_now (suc n) r = stages_now n r ++ (stage_of (r.head n) ∷ [])
 
 -- does an index refuse a key's row to whoever knows these stages
 abbrev pub refused_by : (keys : ℕ) → Register → (stages : List ℕ) → (key : ℕ) → Row → (index : ℕ) → Bool
@@ -68,7 +68,7 @@ applied (put k n ss) r = wrote k (Some n) ss r
 applied (removed k ss) r = wrote k None ss r
 applied (made i c u) r = with_head i (there (record { column = c; unique = u }) up 0 0) r
 applied (went_up i) r = with_head i (raised (r.head i)) r
-applied (turned i) r = with_head i (turnedDown (r.head i)) r
+applied (turned i) r = with_head i (turned_down (r.head i)) r
 applied (went_down i) r = with_head i (lowered (r.head i)) r
 applied (filled i k) r = worked_on i (backfilled k (rows_of i r) (r.entry i)) r
 applied (cleared i k) r = worked_on i (cleaned_up k (r.entry i)) r
@@ -97,12 +97,12 @@ are_stages n ss = length ss == n && all_stages ss
 abbrev pub doable : (keys indexes columns : ℕ) → Record → Register → Bool
 doable keys indexes columns (put k n ss) r = nat_lt k keys && are_stages indexes ss
 doable keys indexes columns (removed k ss) r = nat_lt k keys && are_stages indexes ss && not (no_row (r.row k))
-doable keys indexes columns (made i c u) r = nat_lt i indexes && nat_lt c columns && is_none (whyNotMake (r.head i))
-doable keys indexes columns (went_up i) r = nat_lt i indexes && is_none (whyNotUp keys true (r.head i))
-doable keys indexes columns (turned i) r = nat_lt i indexes && is_none (whyNotTurn true (r.head i))
-doable keys indexes columns (went_down i) r = nat_lt i indexes && is_none (whyNotDown keys true (r.head i))
-doable keys indexes columns (filled i k) r = nat_lt i indexes && is_none (whyNotFill keys true (r.head i)) && k == done_of (r.head i) && not (must_turn keys (rows_of i r) (r.entry i) (r.head i))
-doable keys indexes columns (cleared i k) r = nat_lt i indexes && is_none (whyNotClear keys true (r.head i)) && k == done_of (r.head i)
+doable keys indexes columns (made i c u) r = nat_lt i indexes && nat_lt c columns && is_none (why_not_make (r.head i))
+doable keys indexes columns (went_up i) r = nat_lt i indexes && is_none (why_not_up keys true (r.head i))
+doable keys indexes columns (turned i) r = nat_lt i indexes && is_none (why_not_turn true (r.head i))
+doable keys indexes columns (went_down i) r = nat_lt i indexes && is_none (why_not_down keys true (r.head i))
+doable keys indexes columns (filled i k) r = nat_lt i indexes && is_none (why_not_fill keys true (r.head i)) && k == done_of (r.head i) && not (must_turn keys (rows_of i r) (r.entry i) (r.head i))
+doable keys indexes columns (cleared i k) r = nat_lt i indexes && is_none (why_not_clear keys true (r.head i)) && k == done_of (r.head i)
 doable keys indexes columns came_up r = true
 
 -- can each of these records be done once those before it are

@@ -5,7 +5,7 @@ ghost use Rattle.table.specs.Held.{entry_of};
 ghost use Rattle.table.specs.Update.{keys_for};
 ghost use Rattle.table.specs.Layout.{value_in};
 ghost use Rattle.stage.specs.Stages.{rank, ranks};
-ghost use Rattle.change.specs.Protocol.{stageOf};
+ghost use Rattle.change.specs.Protocol.{stage_of};
 ghost use Rattle.change.specs.Index.{refuses as refusedIn};
 ghost use Rattle.change.specs.Heads.{head_of, slot_of};
 ghost use Rattle.keyset.specs.Sets.{any_below};
@@ -105,7 +105,7 @@ impl Register {
 
 /// The stage of an index, absent where it is not there.
 fn stage_in(slot: Option<Index>) -> Stage
-    ensures { rank result ≡ stageOf (slot_of slot) }
+    ensures { rank result ≡ stage_of (slot_of slot) }
 {
     match slot {
         Some(head) => head.stage(),

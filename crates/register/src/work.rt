@@ -3,7 +3,7 @@
 ghost use Rattle.std.specs.Prelude.{◌≡◌, ℕ, ◌+◌, ◌<◌, ◌≤◌, Bool, true, false, cond, not, ◌&&◌, length, IfOk, None, ◌==◌};
 ghost use Rattle.table.specs.Held.{row_of, entry_of};
 ghost use Rattle.table.specs.Layout.{value_in};
-ghost use Rattle.change.specs.Protocol.{done_of, whyNotFill, whyNotClear};
+ghost use Rattle.change.specs.Protocol.{done_of, why_not_fill, why_not_clear};
 ghost use Rattle.change.specs.Index.{refuses, must_turn, backfilled, cleaned_up};
 ghost use Rattle.change.specs.OneChange.{is_none};
 ghost use Rattle.change.specs.Heads.{head_of};
@@ -52,7 +52,7 @@ pub(super) fn fill_one(
     key: Key,
 ) -> Result<Index, Refusal>
     requires { (length entries.old ≡ 8) × (at < 8) }
-    ensures { OneKey result (is_none (whyNotFill 4096 true (head_of head)) && key.number == done_of (head_of head) && not (must_turn 4096 (λ k. value_in head.column.number (row_of rows.now k)) (entry_in entries.old at) (head_of head))) (head_of head) at (backfilled key.number (λ k. value_in head.column.number (row_of rows.now k)) (entry_in entries.old at)) entries.old entries.new }
+    ensures { OneKey result (is_none (why_not_fill 4096 true (head_of head)) && key.number == done_of (head_of head) && not (must_turn 4096 (λ k. value_in head.column.number (row_of rows.now k)) (entry_in entries.old at) (head_of head))) (head_of head) at (backfilled key.number (λ k. value_in head.column.number (row_of rows.now k)) (entry_in entries.old at)) entries.old entries.new }
 {
     if head.done != key.number() {
         return Err(Refusal::NotNow);
@@ -71,7 +71,7 @@ pub(super) fn clear_one(
     key: Key,
 ) -> Result<Index, Refusal>
     requires { (length entries.old ≡ 8) × (at < 8) }
-    ensures { OneKey result (is_none (whyNotClear 4096 true (head_of head)) && key.number == done_of (head_of head)) (head_of head) at (cleaned_up key.number (entry_in entries.old at)) entries.old entries.new }
+    ensures { OneKey result (is_none (why_not_clear 4096 true (head_of head)) && key.number == done_of (head_of head)) (head_of head) at (cleaned_up key.number (entry_in entries.old at)) entries.old entries.new }
 {
     if head.done != key.number() {
         return Err(Refusal::NotNow);

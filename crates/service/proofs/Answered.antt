@@ -13,11 +13,11 @@ use Rattle.register.specs.Registers.{Register, cell_of, rows_of, no_row, all_sta
 use Rattle.lease.specs.Leases.{Lease, stage_at, runs, holds, Among}
 use Rattle.lease.specs.Clocks.{Times, Counts, Fit}
 use Rattle.lease.proofs.Books.{is_held, held_in}
-use Rattle.service.specs.Calls.{Limits, Store, Claim, Call, write, take_away, read, look, loan, make, raise, turn, lower, fill, clear, by_all_rows, Answer, ok, found, lent, refused, answer_by, row_answer, record_by, noOffice, noKey, noClaim, noLease, why_not, granted, record_of, answered, recorded, leasesAfter, appliedMaybe}
+use Rattle.service.specs.Calls.{Limits, Store, Claim, Call, write, take_away, read, look, loan, make, raise, turn, lower, fill, clear, by_all_rows, Answer, ok, found, lent, refused, answer_by, row_answer, record_by, no_office, no_key, no_claim, no_lease, why_not, granted, record_of, answered, recorded, leases_after, applied_maybe}
 use Rattle.service.specs.World.{World, says, list_of, Has, calls, then, Acts}
 use Rattle.service.specs.Promise as promise
-use Rattle.service.specs.Promise.{OnClaim, writes, takes, looks, In, byStore, answer, ToWrite, ToRead, Answers}
-use Rattle.service.proofs.Worlds.{Sane, Inv, Noted, Early, Booked, in-time}
+use Rattle.service.specs.Promise.{OnClaim, writes, takes, looks, In, by_store, answer, ToWrite, ToRead, Answers}
+use Rattle.service.proofs.Worlds.{Sane, Inv, Noted, Early, Booked, in_time}
 
 some_below : (f : ℕ → Bool) (n : ℕ) → any_below f n ≡ true → (j : ℕ) × (f j ≡ true)
 unfolding any_below
@@ -54,17 +54,17 @@ write_taken keys indexes r ss k n own e =
 
 module _ (m : Limits) (s : Store) (t : ℕ) where
   -- what a look asks
-  look-asks : (o : ℕ) (c : Claim) (i x : ℕ) → why_not m s t (look o c i x) ≡ None → (holds m.long t o c.stages s.leases ≡ true) × (stage_at c.stages i ≡ 3)
-  look-asks o c i x e = grind arith
+  look_asks : (o : ℕ) (c : Claim) (i x : ℕ) → why_not m s t (look o c i x) ≡ None → (holds m.long t o c.stages s.leases ≡ true) × (stage_at c.stages i ≡ 3)
+  look_asks o c i x e = grind arith
 
   -- a refusal changes nothing
-  unchanged : (x : Call) (n : ℕ) → answered m s t x ≡ refused n → (recorded m s t x ≡ None) × (leasesAfter m s t x ≡ s.leases)
+  unchanged : (x : Call) (n : ℕ) → answered m s t x ≡ refused n → (recorded m s t x ≡ None) × (leases_after m s t x ≡ s.leases)
   unchanged x n e = elim (why_told (why_not m s t x) (granted m s t x) n e) [ inl f ↦ (ap (λ why. record_by why (record_of m s t x)) f, book x f) | inr f ↦ no_record x f.0 f.1 ]
     where
-      lend : (o : ℕ) → why_not m s t (loan o) ≡ Some n → leasesAfter m s t (loan o) ≡ s.leases
+      lend : (o : ℕ) → why_not m s t (loan o) ≡ Some n → leases_after m s t (loan o) ≡ s.leases
       lend o e = grind arith
 
-      book : (x : Call) → why_not m s t x ≡ Some n → leasesAfter m s t x ≡ s.leases
+      book : (x : Call) → why_not m s t x ≡ Some n → leases_after m s t x ≡ s.leases
       book (loan o) e = lend o e
       book (write o c k n) e = refl
       book (take_away o c k) e = refl
@@ -78,7 +78,7 @@ module _ (m : Limits) (s : Store) (t : ℕ) where
       book (clear i) e = refl
       book (by_all_rows i v) e = refl
 
-      no_record : (x : Call) → why_not m s t x ≡ None → granted m s t x ≡ refused n → (recorded m s t x ≡ None) × (leasesAfter m s t x ≡ s.leases)
+      no_record : (x : Call) → why_not m s t x ≡ None → granted m s t x ≡ refused n → (recorded m s t x ≡ None) × (leases_after m s t x ≡ s.leases)
       no_record (read o k) e f = (ap (λ why. record_by why None) e, refl)
       no_record (loan o) e f = absurd (grind arith)
       no_record (write o c k n) e f = absurd (grind arith)
@@ -106,7 +106,7 @@ module _ (m : Limits) (p : Times) (clocks : ℕ → ℕ → ℕ) (fit : Fit m.lo
   good = subst⁻¹ (λ z. Sane m (In m p clocks w) z) same v.good
 
   own : (i : ℕ) → NoOrphan (rows_of i rg) (rg.entry i)
-  own i = kept.no-orphan m.keys (rg.head i) (good.sound i)
+  own i = kept.no_orphan_lem m.keys (rg.head i) (good.sound i)
 
   to_write : (o : ℕ) (c : Claim) (k : ℕ) (n : Row) → ToWrite m p clocks w o c k n (answer m p clocks w (write o c k n))
   to_write o c k n = go _ refl _ refl _ (write_taken m.keys m.indexes rg c.stages k n own)
@@ -114,29 +114,29 @@ module _ (m : Limits) (p : Times) (clocks : ℕ → ℕ → ℕ) (fit : Fit m.lo
       taken : Taken (says w) k n → ToWrite m p clocks w o c k n (refused 4)
       taken (i, j, v, one, other, has, value) = promise.taken i j v one other has value
 
-      go : (a : Bool) → (noOffice m o || noKey m k || noClaim m c) ≡ a → (b : Bool) → noLease m w.store t o c ≡ b → (d : Bool) → (d ≡ true → Taken rg k n)
+      go : (a : Bool) → (no_office m o || no_key m k || no_claim m c) ≡ a → (b : Bool) → no_lease m w.store t o c ≡ b → (d : Bool) → (d ≡ true → Taken rg k n)
           → ToWrite m p clocks w o c k n (answer_by (cond a (Some 1) (cond b (Some 2) (cond d (Some 4) None))) ok)
-      go true e b f d g = promise.ToWrite.outOfRange e
-      go false e true f d g = promise.noLeaseRuns f
+      go true e b f d g = promise.ToWrite.out_of_range e
+      go false e true f d g = promise.no_lease_runs f
       go false e false f true g = taken (subst (λ r. Taken r k n) same (g refl))
       go false e false f false g = promise.done
 
   to_read : (o k : ℕ) → ToRead m p clocks w o k (answer m p clocks w (read o k))
   to_read o k = go _ refl (rg.row k) (ap (λ (r : Register). r.row k) (sym same))
     where
-      go : (a : Bool) → (noOffice m o || noKey m k) ≡ a → (n : Option Row) → (says w).row k ≡ n → ToRead m p clocks w o k (answer_by (cond a (Some 1) (cond (no_row n) (Some 9) None)) (row_answer n))
-      go true e n f = promise.ToRead.outOfRange e
-      go false e None f = promise.isNoRow f
-      go false e (Some n) f = promise.itsRow n f
+      go : (a : Bool) → (no_office m o || no_key m k) ≡ a → (n : Option Row) → (says w).row k ≡ n → ToRead m p clocks w o k (answer_by (cond a (Some 1) (cond (no_row n) (Some 9) None)) (row_answer n))
+      go true e n f = promise.ToRead.out_of_range e
+      go false e None f = promise.is_no_row f
+      go false e (Some n) f = promise.its_row n f
 
   looked : (o : ℕ) (c : Claim) (i x : ℕ) (ks : List ℕ) → answer m p clocks w (look o c i x) ≡ found ks → ks ≡ keys_for m.keys (rows_of i (says w)) x
   looked o c i x ks e =
       let (why, f) = found_told (why_not m w.store t (look o c i x)) (granted m w.store t (look o c i x)) ks e in
-      let (held, three) = look-asks m w.store t o c i x why in
+      let (held, three) = look_asks m w.store t o c i x why in
       let (l, among, running, stages) = is_held m.long t o c.stages w.store.leases held in
-      let in_three : In m p clocks w i 3 = byStore l among running (ap (λ ss. stage_at ss i) stages ∙ three) in
+      let in_three : In m p clocks w i 3 = by_store l among running (ap (λ ss. stage_at ss i) stages ∙ three) in
       let g : keys_for m.keys (rg.entry i) x ≡ ks = grind arith in
-      sym g ∙ kept.looks-right m.keys (rg.head i) (inl in_three) (good.sound i) x ∙ ap (λ r. keys_for m.keys (rows_of i r) x) same
+      sym g ∙ kept.looks_right_lem m.keys (rg.head i) (inl in_three) (good.sound i) x ∙ ap (λ r. keys_for m.keys (rows_of i r) x) same
 
   lends : (o : ℕ) → o < m.offices → (c : Claim) × (answer m p clocks w (loan o) ≡ lent c)
   lends o l = (record { epoch = rg.epoch; stages = stages_now m.indexes rg }, (let e = lt-ltb o m.offices l in grind arith))
@@ -145,8 +145,8 @@ module _ (m : Limits) (p : Times) (clocks : ℕ → ℕ → ℕ) (fit : Fit m.lo
   abbrev Leased : ℕ → Claim → Type 0
   Leased o c = (l : Lease) × Among l w.store.leases × (l.office ≡ o) × (l.stages ≡ c.stages) × (runs m.long t l ≡ true) × (c.epoch ≡ rg.epoch)
 
-  lease-runs : (o a : ℕ) (c : Claim) → Has w o a c → Acts m p clocks w o a → c.epoch ≡ (says w).epoch → Leased o c
-  lease-runs o a c h f e = go n.how
+  lease_runs : (o a : ℕ) (c : Claim) → Has w o a c → Acts m p clocks w o a → c.epoch ≡ (says w).epoch → Leased o c
+  lease_runs o a c h f e = go n.how
     where
       n : Noted m p clocks (Early m p clocks w c) w (v.up u).since o a c.stages
       n = (v.up u).notes o a c h
@@ -157,13 +157,13 @@ module _ (m : Limits) (p : Times) (clocks : ℕ → ℕ → ℕ) (fit : Fit m.lo
       go : Early m p clocks w c n.at ⊎ Booked m p clocks w n.at o c.stages → Leased o c
       go (inl z) = absurd (let q = z.1 in let same-epoch = epochs in omega arith)
       go (inr b) =
-          let z = in-time m p clocks fit counts w (v.up u) o a n.at n.within n.since n.before f in
+          let z = in_time m p clocks fit counts w (v.up u) o a n.at n.within n.since n.before f in
           let k = b z in
           let after = k.4 in
           (k.0, k.1, k.2, k.3, lt-ltb _ _ (omega arith), epochs)
 
-  has-lease : (o : ℕ) (c : Claim) → Leased o c → noLease m w.store t o c ≡ false
-  has-lease o c (l, among, office, stages, running, epoch) =
+  has_lease : (o : ℕ) (c : Claim) → Leased o c → no_lease m w.store t o c ≡ false
+  has_lease o c (l, among, office, stages, running, epoch) =
       let x = held_in m.long t o c.stages l w.store.leases among running office stages in
       let y = eq-eqb c.epoch rg.epoch epoch in
       grind arith
@@ -171,13 +171,13 @@ module _ (m : Limits) (p : Times) (clocks : ℕ → ℕ → ℕ) (fit : Fit m.lo
   serves : (o a : ℕ) (c : Claim) (k : ℕ) (n : Row) → Has w o a c → Acts m p clocks w o a → c.epoch ≡ (says w).epoch → k < m.keys →
       (answer m p clocks w (write o c k n) ≡ ok) ⊎ (answer m p clocks w (write o c k n) ≡ refused 4)
   serves o a c k n h f e below =
-      let lease = lease-runs o a c h f e in
-      let two : noLease m w.store t o c ≡ false = has-lease o c lease in
+      let lease = lease_runs o a c h f e in
+      let two : no_lease m w.store t o c ≡ false = has_lease o c lease in
       let (office, long, stages) = v.fits lease.0 lease.1 in
       let office' : o < m.offices = let q = lease.2 in omega arith in
       let long' : length c.stages ≡ m.indexes = ap length (sym lease.3) ∙ long in
       let stages' : all_stages c.stages ≡ true = subst (λ z. all_stages z ≡ true) lease.3 stages in
-      let one : noOffice m o || noKey m k || noClaim m c ≡ false = grind arith in
+      let one : no_office m o || no_key m k || no_claim m c ≡ false = grind arith in
       last _ one _ two (any_below (refused_by m.keys rg c.stages k n) m.indexes)
     where
       last : (x : Bool) → x ≡ false → (y : Bool) → y ≡ false → (b : Bool) → let z = answer_by (cond x (Some 1) (cond y (Some 2) (cond b (Some 4) None))) ok in (z ≡ ok) ⊎ (z ≡ refused 4)
@@ -186,18 +186,18 @@ module _ (m : Limits) (p : Times) (clocks : ℕ → ℕ → ℕ) (fit : Fit m.lo
       last false e false f true = inr refl
       last false e false f false = inl refl
 
-  not-two : (b x d : Bool) (n : ℕ) → x ≡ false → (n ≡ 2 → ⊥) → (a : Answer) → (a ≡ refused 2 → ⊥) → answer_by (cond b (Some 1) (cond x (Some 2) (cond d (Some n) None))) a ≡ refused 2 → ⊥
-  not-two b x d n e f a g h = grind arith
+  not_two : (b x d : Bool) (n : ℕ) → x ≡ false → (n ≡ 2 → ⊥) → (a : Answer) → (a ≡ refused 2 → ⊥) → answer_by (cond b (Some 1) (cond x (Some 2) (cond d (Some n) None))) a ≡ refused 2 → ⊥
+  not_two b x d n e f a g h = grind arith
 
   acts : (o a : ℕ) (c : Claim) (x : Call) → Has w o a c → Acts m p clocks w o a → c.epoch ≡ (says w).epoch → OnClaim o c x → answer m p clocks w x ≡ refused 2 → ⊥
-  acts o a c x h f e (writes k n) q = not-two _ _ _ 4 (has-lease o c (lease-runs o a c h f e)) (λ z. omega arith) _ (λ z. grind arith) q
-  acts o a c x h f e (takes k) q = not-two _ _ _ 9 (has-lease o c (lease-runs o a c h f e)) (λ z. omega arith) _ (λ z. grind arith) q
-  acts o a c x h f e (looks i y) q = not-two _ _ _ 3 (has-lease o c (lease-runs o a c h f e)) (λ z. omega arith) _ (λ z. grind arith) q
+  acts o a c x h f e (writes k n) q = not_two _ _ _ 4 (has_lease o c (lease_runs o a c h f e)) (λ z. omega arith) _ (λ z. grind arith) q
+  acts o a c x h f e (takes k) q = not_two _ _ _ 9 (has_lease o c (lease_runs o a c h f e)) (λ z. omega arith) _ (λ z. grind arith) q
+  acts o a c x h f e (looks i y) q = not_two _ _ _ 3 (has_lease o c (lease_runs o a c h f e)) (λ z. omega arith) _ (λ z. grind arith) q
 
   refuses : (a : ℕ) (x : Call) (n : ℕ) → answer m p clocks w x ≡ refused n → let z = then m p (calls a x) w in (z.store ≡ w.store) × (z.pending ≡ w.pending) × (z.journal ≡ w.journal)
   refuses a x n e =
       let k = unchanged m w.store t x n e in
-      ((λ j. record { register = appliedMaybe m w.store t (k.0 j); leases = k.1 j }), ap (λ z. w.pending ++ list_of z) k.0 ∙ append-nil w.pending, refl)
+      ((λ j. record { register = applied_maybe m w.store t (k.0 j); leases = k.1 j }), ap (λ z. w.pending ++ list_of z) k.0 ∙ append-nil w.pending, refl)
 
   pub answers : Answers m p clocks w
   answers = record { writing = to_write; reading = to_read; looking = looked; lending = lends; acting = acts; serving = serves; refusing = refuses }

@@ -3,10 +3,10 @@ use Rattle.std.proofs.Common.{◌≡◌, ℕ, ◌<◌, false, cond, not, ltb, So
 use Rattle.std.proofs.lemmas.Bool.{lt-ltb}
 use Rattle.register.proofs.Parts.{are_stages_lem}
 use Rattle.service.specs.declared.kinds.Claim.{Claim}
-use Rattle.service.specs.Calls.{noClaim}
+use Rattle.service.specs.Calls.{no_claim}
 use Rattle.service.specs.Held.{limits, claim_of}
 
-pub is_claim : (long : ℕ) (c : Claim) → noClaim (limits long) (claim_of c) ≡ false
+pub is_claim : (long : ℕ) (c : Claim) → no_claim (limits long) (claim_of c) ≡ false
 is_claim long c = ap not (are_stages_lem 8 c.stages c.stages_long)
 
 -- an index of the code's own is in range

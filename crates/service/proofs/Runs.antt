@@ -9,7 +9,7 @@ use Rattle.lease.specs.Clocks.{Times, Counts, Fit, Fits}
 use Rattle.register.specs.Registers.{Register, bare, applied, came_up, replayed, rows_of}
 use Rattle.table.specs.Update.{keys_for}
 use Rattle.service.specs.Calls.{Limits, Store, Claim, Call, look, found, answered, after}
-use Rattle.service.specs.World.{World, Event, passes, calls, comes_up, Comes, then, Possible, none_yet, one_more, after-all, began, says}
+use Rattle.service.specs.World.{World, Event, passes, calls, comes_up, Comes, then, Possible, none_yet, one_more, after_all, began, says}
 use Rattle.service.specs.Promise.{Promise, Keeps}
 use Rattle.service.specs.declared.kinds.Call as codes
 use Rattle.service.specs.declared.owner.State.{State}
@@ -28,12 +28,12 @@ exact short rate since = record {
 
 module _ (long short rate : ℕ) where
   abbrev at : List Event → World
-  at es = after-all (limits long) (times_of short rate) es
+  at es = after_all (limits long) (times_of short rate) es
 
   -- the store comes up for the first time
-  pub first-up : Reached long short rate (record { register = applied came_up bare; leases = [] }) 0
-  unfolding after-all replayed
-  first-up = record {
+  pub first_up : Reached long short rate (record { register = applied came_up bare; leases = [] }) 0
+  unfolding after_all replayed
+  first_up = record {
     events = comes_up (λ t. t - 0) ∷ [];
     possible = one_more (comes_up (λ t. t - 0)) [] none_yet (refl, exact short rate 0, refl);
     up = refl;
@@ -45,7 +45,7 @@ module _ (long short rate : ℕ) where
 
   -- time passes
   pub later : (s : Store) (n m : ℕ) → n ≤ m → Reached long short rate s n → Reached long short rate s m
-  unfolding after-all
+  unfolding after_all
   later s n m h r = record {
     events = passes (m - n) ∷ r.events;
     possible = one_more (passes (m - n)) r.events r.possible tt;
@@ -61,7 +61,7 @@ module _ (long short rate : ℕ) where
 
   -- a call comes
   at_call : (s : Store) (n : ℕ) (c : Call) → Reached long short rate s n → Reached long short rate (after (limits long) s n c) n
-  unfolding after-all
+  unfolding after_all
   at_call s n c r =
       let w = at r.events in
       record {
@@ -84,8 +84,8 @@ module _ (long short rate : ℕ) where
   fit f = record { some_grain = lit≤ tt; within = f }
 
   -- it has the promises
-  pub has-promises : Fits long short rate → (s : Store) (n : ℕ) → ∥ Reached long short rate s n ∥₁ → HasPromises long short rate s n
-  has-promises f s n r clocks counts = ∥∥₁_map r (λ x.
+  pub has_promises : Fits long short rate → (s : Store) (n : ℕ) → ∥ Reached long short rate s n ∥₁ → HasPromises long short rate s n
+  has_promises f s n r clocks counts = ∥∥₁_map r (λ x.
       let (promise, ends) = promises.keeps (limits long) (times_of short rate) clocks (fit f) counts x.events x.possible in
       record { events = x.events; possible = x.possible; up = x.up; store = x.store; reads = shows s n x; promise = promise; can_end = ends })
 

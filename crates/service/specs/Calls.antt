@@ -3,7 +3,7 @@ use Rattle.std.specs.Prelude.{ℕ, Bool, cond, not, ◌||◌, List, Some, None, 
 use Rattle.keyset.specs.Sets.{any_below}
 use Rattle.table.specs.declared.row.Row.{Row}
 use Rattle.table.specs.Update.{keys_for}
-use Rattle.change.specs.Protocol.{stageOf, done_of, isGone, whyNotMake, whyNotUp, whyNotTurn, whyNotDown, whyNotFill, whyNotClear}
+use Rattle.change.specs.Protocol.{stage_of, done_of, is_gone, why_not_make, why_not_up, why_not_turn, why_not_down, why_not_fill, why_not_clear}
 use Rattle.change.specs.Index.{must_turn}
 use Rattle.register.specs.Registers.{Register, Record, put, removed, made, went_up, turned, went_down, filled, cleared, rows_of, stages_now, refused_by, applied, no_row, are_stages}
 use Rattle.lease.specs.Leases.{Lease, stage_at, holds, all_at, noted}
@@ -63,58 +63,58 @@ record_by (Some n) x = None
 
 module _ (m : Limits) where
   -- is an office out of range
-  abbrev pub noOffice : ℕ → Bool
-  noOffice o = not (nat_lt o m.offices)
+  abbrev pub no_office : ℕ → Bool
+  no_office o = not (nat_lt o m.offices)
 
   -- is a key out of range
-  abbrev pub noKey : ℕ → Bool
-  noKey k = not (nat_lt k m.keys)
+  abbrev pub no_key : ℕ → Bool
+  no_key k = not (nat_lt k m.keys)
 
   -- is an index out of range
   abbrev pub no_index : ℕ → Bool
   no_index i = not (nat_lt i m.indexes)
 
   -- is a column out of range
-  abbrev pub noColumn : ℕ → Bool
-  noColumn c = not (nat_lt c m.columns)
+  abbrev pub no_column : ℕ → Bool
+  no_column c = not (nat_lt c m.columns)
 
   -- is it no claim: not one stage for each index
-  abbrev pub noClaim : Claim → Bool
-  noClaim c = not (are_stages m.indexes c.stages)
+  abbrev pub no_claim : Claim → Bool
+  no_claim c = not (are_stages m.indexes c.stages)
 
 -- the limits, the store, and what its clock shows
 module _ (m : Limits) (s : Store) (t : ℕ) where
   -- has an office no lease that runs, of this epoch and these stages
-  abbrev pub noLease : (office : ℕ) → Claim → Bool
-  noLease o c = not (c.epoch == s.register.epoch) || not (holds m.long t o c.stages s.leases)
+  abbrev pub no_lease : (office : ℕ) → Claim → Bool
+  no_lease o c = not (c.epoch == s.register.epoch) || not (holds m.long t o c.stages s.leases)
 
   -- is every lease that runs of the index's own stage
   abbrev pub alone : (index : ℕ) → Bool
-  alone i = all_at m.long t i (stageOf (s.register.head i)) s.leases
+  alone i = all_at m.long t i (stage_of (s.register.head i)) s.leases
 
   -- a change that may take a step may not take it while the store is quiet after a stop: 8
-  abbrev pub unlessQuiet : (why : Option ℕ) → Option ℕ
-  unlessQuiet None = cond (nat_lt t m.long) (Some 8) None
-  unlessQuiet (Some n) = Some n
+  abbrev pub unless_quiet : (why : Option ℕ) → Option ℕ
+  unless_quiet None = cond (nat_lt t m.long) (Some 8) None
+  unless_quiet (Some n) = Some n
 
   -- does backfill find the value of the next key taken
-  abbrev pub turnsBack : (index : ℕ) → Bool
-  turnsBack i = must_turn m.keys (rows_of i s.register) (s.register.entry i) (s.register.head i)
+  abbrev pub turns_back : (index : ℕ) → Bool
+  turns_back i = must_turn m.keys (rows_of i s.register) (s.register.entry i) (s.register.head i)
 
   -- by which number a call is refused: the lowest that applies
   abbrev pub why_not : Call → Option ℕ
-  why_not (write o c k n) = cond (noOffice m o || noKey m k || noClaim m c) (Some 1) (cond (noLease o c) (Some 2) (cond (any_below (refused_by m.keys s.register c.stages k n) m.indexes) (Some 4) None))
-  why_not (take_away o c k) = cond (noOffice m o || noKey m k || noClaim m c) (Some 1) (cond (noLease o c) (Some 2) (cond (no_row (s.register.row k)) (Some 9) None))
-  why_not (read o k) = cond (noOffice m o || noKey m k) (Some 1) (cond (no_row (s.register.row k)) (Some 9) None)
-  why_not (look o c i v) = cond (noOffice m o || no_index m i || noClaim m c) (Some 1) (cond (noLease o c) (Some 2) (cond (not (stage_at c.stages i == 3)) (Some 3) None))
-  why_not (loan o) = cond (noOffice m o) (Some 1) None
-  why_not (make i c u) = cond (no_index m i || noColumn m c) (Some 1) (whyNotMake (s.register.head i))
-  why_not (raise i) = cond (no_index m i) (Some 1) (unlessQuiet (whyNotUp m.keys (alone i) (s.register.head i)))
-  why_not (turn i) = cond (no_index m i) (Some 1) (unlessQuiet (whyNotTurn (alone i) (s.register.head i)))
-  why_not (lower i) = cond (no_index m i) (Some 1) (unlessQuiet (whyNotDown m.keys (alone i) (s.register.head i)))
-  why_not (fill i) = cond (no_index m i) (Some 1) (unlessQuiet (whyNotFill m.keys (alone i) (s.register.head i)))
-  why_not (clear i) = cond (no_index m i) (Some 1) (unlessQuiet (whyNotClear m.keys (alone i) (s.register.head i)))
-  why_not (by_all_rows i v) = cond (no_index m i) (Some 1) (cond (isGone (s.register.head i)) (Some 6) None)
+  why_not (write o c k n) = cond (no_office m o || no_key m k || no_claim m c) (Some 1) (cond (no_lease o c) (Some 2) (cond (any_below (refused_by m.keys s.register c.stages k n) m.indexes) (Some 4) None))
+  why_not (take_away o c k) = cond (no_office m o || no_key m k || no_claim m c) (Some 1) (cond (no_lease o c) (Some 2) (cond (no_row (s.register.row k)) (Some 9) None))
+  why_not (read o k) = cond (no_office m o || no_key m k) (Some 1) (cond (no_row (s.register.row k)) (Some 9) None)
+  why_not (look o c i v) = cond (no_office m o || no_index m i || no_claim m c) (Some 1) (cond (no_lease o c) (Some 2) (cond (not (stage_at c.stages i == 3)) (Some 3) None))
+  why_not (loan o) = cond (no_office m o) (Some 1) None
+  why_not (make i c u) = cond (no_index m i || no_column m c) (Some 1) (why_not_make (s.register.head i))
+  why_not (raise i) = cond (no_index m i) (Some 1) (unless_quiet (why_not_up m.keys (alone i) (s.register.head i)))
+  why_not (turn i) = cond (no_index m i) (Some 1) (unless_quiet (why_not_turn (alone i) (s.register.head i)))
+  why_not (lower i) = cond (no_index m i) (Some 1) (unless_quiet (why_not_down m.keys (alone i) (s.register.head i)))
+  why_not (fill i) = cond (no_index m i) (Some 1) (unless_quiet (why_not_fill m.keys (alone i) (s.register.head i)))
+  why_not (clear i) = cond (no_index m i) (Some 1) (unless_quiet (why_not_clear m.keys (alone i) (s.register.head i)))
+  why_not (by_all_rows i v) = cond (no_index m i) (Some 1) (cond (is_gone (s.register.head i)) (Some 6) None)
 
   -- what is answered to a call that is not refused
   abbrev pub granted : Call → Answer
@@ -127,7 +127,7 @@ module _ (m : Limits) (s : Store) (t : ℕ) where
   granted (raise i) = ok
   granted (turn i) = ok
   granted (lower i) = ok
-  granted (fill i) = cond (turnsBack i) turned_back ok
+  granted (fill i) = cond (turns_back i) turned_back ok
   granted (clear i) = ok
   granted (by_all_rows i v) = found (keys_for m.keys (rows_of i s.register) v)
 
@@ -142,7 +142,7 @@ module _ (m : Limits) (s : Store) (t : ℕ) where
   record_of (raise i) = Some (went_up i)
   record_of (turn i) = Some (turned i)
   record_of (lower i) = Some (went_down i)
-  record_of (fill i) = Some (cond (turnsBack i) (turned i) (filled i (done_of (s.register.head i))))
+  record_of (fill i) = Some (cond (turns_back i) (turned i) (filled i (done_of (s.register.head i))))
   record_of (clear i) = Some (cleared i (done_of (s.register.head i)))
   record_of (by_all_rows i v) = None
 
@@ -155,29 +155,29 @@ module _ (m : Limits) (s : Store) (t : ℕ) where
   recorded c = record_by (why_not c) (record_of c)
 
   -- the lease that an office is given
-  abbrev pub leaseFor : (office : ℕ) → Lease
-  leaseFor o = record { office = o; stages = stages_now m.indexes s.register; since = t }
+  abbrev pub lease_for : (office : ℕ) → Lease
+  lease_for o = record { office = o; stages = stages_now m.indexes s.register; since = t }
 
   -- the book after a call
-  abbrev pub leasesAfter : Call → List Lease
-  leasesAfter (loan o) = cond (noOffice m o) s.leases (noted m.long (leaseFor o) s.leases)
-  leasesAfter (write o c k n) = s.leases
-  leasesAfter (take_away o c k) = s.leases
-  leasesAfter (read o k) = s.leases
-  leasesAfter (look o c i v) = s.leases
-  leasesAfter (make i c u) = s.leases
-  leasesAfter (raise i) = s.leases
-  leasesAfter (turn i) = s.leases
-  leasesAfter (lower i) = s.leases
-  leasesAfter (fill i) = s.leases
-  leasesAfter (clear i) = s.leases
-  leasesAfter (by_all_rows i v) = s.leases
+  abbrev pub leases_after : Call → List Lease
+  leases_after (loan o) = cond (no_office m o) s.leases (noted m.long (lease_for o) s.leases)
+  leases_after (write o c k n) = s.leases
+  leases_after (take_away o c k) = s.leases
+  leases_after (read o k) = s.leases
+  leases_after (look o c i v) = s.leases
+  leases_after (make i c u) = s.leases
+  leases_after (raise i) = s.leases
+  leases_after (turn i) = s.leases
+  leases_after (lower i) = s.leases
+  leases_after (fill i) = s.leases
+  leases_after (clear i) = s.leases
+  leases_after (by_all_rows i v) = s.leases
 
   -- the register once a record, if there is one, is done
-  abbrev pub appliedMaybe : Option Record → Register
-  appliedMaybe None = s.register
-  appliedMaybe (Some x) = applied x s.register
+  abbrev pub applied_maybe : Option Record → Register
+  applied_maybe None = s.register
+  applied_maybe (Some x) = applied x s.register
 
   -- the store after a call
   abbrev pub after : Call → Store
-  after c = record { register = appliedMaybe (recorded c); leases = leasesAfter c }
+  after c = record { register = applied_maybe (recorded c); leases = leases_after c }

@@ -3,7 +3,7 @@
 use Rattle.std.specs.Prelude.{◌≡◌, ℕ, ◌+◌, ◌-◌, true, List}
 use Rattle.lease.specs.Clocks.{Times, Counts}
 use Rattle.service.specs.Calls.{Limits, Store}
-use Rattle.service.specs.World.{World, Event, Possible, after-all}
+use Rattle.service.specs.World.{World, Event, Possible, after_all}
 use Rattle.service.specs.Promise.{Promise, CanEnd}
 use Rattle.service.specs.Held.{limits}
 
@@ -15,21 +15,21 @@ times_of short rate = record { short = short; rate = rate; grain = 1 }
 pub record Reached (long short rate : ℕ) (s : Store) (reading : ℕ) : Type 0 where
   pub events : List Event
   pub possible : Possible (limits long) (times_of short rate) events
-  pub up : (after-all (limits long) (times_of short rate) events).is_up ≡ true
-  pub store : (after-all (limits long) (times_of short rate) events).store ≡ s
+  pub up : (after_all (limits long) (times_of short rate) events).is_up ≡ true
+  pub store : (after_all (limits long) (times_of short rate) events).store ≡ s
   -- the moment at which it came up
   pub since : ℕ
-  pub clock : (after-all (limits long) (times_of short rate) events).clock ≡ (λ t. t - since)
-  pub moment : (after-all (limits long) (times_of short rate) events).moment ≡ since + reading
+  pub clock : (after_all (limits long) (times_of short rate) events).clock ≡ (λ t. t - since)
+  pub moment : (after_all (limits long) (times_of short rate) events).moment ≡ since + reading
 
 -- the store is that of a world that has all the promises, whatever clocks the offices have
 pub record Promised (long short rate : ℕ) (clocks : ℕ → ℕ → ℕ) (s : Store) (reading : ℕ) : Type 0 where
   pub events : List Event
   pub possible : Possible (limits long) (times_of short rate) events
-  pub up : (after-all (limits long) (times_of short rate) events).is_up ≡ true
-  pub store : (after-all (limits long) (times_of short rate) events).store ≡ s
-  pub reads : (after-all (limits long) (times_of short rate) events).clock (after-all (limits long) (times_of short rate) events).moment ≡ reading
-  pub promise : Promise (limits long) (times_of short rate) clocks (after-all (limits long) (times_of short rate) events)
+  pub up : (after_all (limits long) (times_of short rate) events).is_up ≡ true
+  pub store : (after_all (limits long) (times_of short rate) events).store ≡ s
+  pub reads : (after_all (limits long) (times_of short rate) events).clock (after_all (limits long) (times_of short rate) events).moment ≡ reading
+  pub promise : Promise (limits long) (times_of short rate) clocks (after_all (limits long) (times_of short rate) events)
   pub can_end : CanEnd (limits long) (times_of short rate) clocks events
 
 -- the store has all the promises

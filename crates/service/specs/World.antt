@@ -97,14 +97,14 @@ module _ (m : Limits) (p : Times) where
       record { moment = w.moment; clock = clock; is_up = true; store = store; journal = w.journal; pending = pending; waiting = []; told = w.told }
 
   -- the world after these events, the newest first
-  unfoldable pub after-all : List Event → World
-  after-all [] = began
-  after-all (e ∷ es) = then e (after-all es)
+  unfoldable pub after_all : List Event → World
+  after_all [] = began
+  after_all (e ∷ es) = then e (after_all es)
 
   -- each of these events may come after those before it
   pub data Possible : List Event → Type 0 where
     none_yet : Possible []
-    one_more : (e : Event) (es : List Event) → Possible es → Comes e (after-all es) → Possible (e ∷ es)
+    one_more : (e : Event) (es : List Event) → Possible es → Comes e (after_all es) → Possible (e ∷ es)
 
   -- an office acts, by its own clock, on a lease that it asked for at a moment; clocks o is the clock of office o
   abbrev pub Acts : (clocks : ℕ → ℕ → ℕ) → World → (office asked : ℕ) → Type 0

@@ -4,7 +4,7 @@ ghost use Rattle.std.specs.Prelude.{◌≡◌, ℕ, ◌+◌, ◌<◌, ◌≤◌,
 ghost use Rattle.register.specs.Held.{register_of};
 ghost use Rattle.lease.specs.Leases.{noted};
 ghost use Rattle.lease.specs.Books.{book_of};
-ghost use Rattle.service.specs.Calls.{why_not, granted, record_of, after, leaseFor, leasesAfter};
+ghost use Rattle.service.specs.Calls.{why_not, granted, record_of, after, lease_for, leases_after};
 ghost use Rattle.service.specs.Held.{limits, store_of, claim_of, call_of, answer_of, record_in, Carried, Called};
 
 use super::decide::OFFICES;
@@ -20,7 +20,7 @@ impl State {
     fn note(&mut self, heap: Global, reading: u64, office: u8) -> Result<(), AllocError>
         ensures register { self.new.register ≡ self.old.register }
         ensures long { self.new.long ≡ self.old.long }
-        ensures book { MatchResult result (λ _. book_of self.new.book.leases.items ≡ noted self.old.long (leaseFor (limits self.old.long) (store_of self.old) reading office) (book_of self.old.book.leases.items)) (λ _. self.new.book ≡ self.old.book) }
+        ensures book { MatchResult result (λ _. book_of self.new.book.leases.items ≡ noted self.old.long (lease_for (limits self.old.long) (store_of self.old) reading office) (book_of self.old.book.leases.items)) (λ _. self.new.book ≡ self.old.book) }
     {
         let lease = Lease {
             office,
@@ -35,7 +35,7 @@ impl State {
     fn lend(&mut self, heap: Global, reading: u64, call: &Call) -> Result<(), AllocError>
         ensures register { self.new.register ≡ self.old.register }
         ensures long { self.new.long ≡ self.old.long }
-        ensures book { MatchResult result (λ _. book_of self.new.book.leases.items ≡ leasesAfter (limits self.old.long) (store_of self.old) reading (call_of call.now)) (λ _. self.new.book ≡ self.old.book) }
+        ensures book { MatchResult result (λ _. book_of self.new.book.leases.items ≡ leases_after (limits self.old.long) (store_of self.old) reading (call_of call.now)) (λ _. self.new.book ≡ self.old.book) }
     {
         match *call {
             Call::Loan(office) if office < OFFICES => {

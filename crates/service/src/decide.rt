@@ -1,12 +1,12 @@
 //! By which refusal a call is turned away, if it is: the one with the lowest number.
 
 ghost use Rattle.std.specs.Prelude.{◌≡◌, ℕ, ◌+◌, ◌<◌, ◌≤◌, Bool, true, false, not, ◌&&◌, ◌||◌, length, if◌then◌else◌, Some, None, ◌==◌, slice_index};
-ghost use Rattle.change.specs.Protocol.{whyNotUp, whyNotTurn, whyNotDown, whyNotFill, whyNotClear};
+ghost use Rattle.change.specs.Protocol.{why_not_up, why_not_turn, why_not_down, why_not_fill, why_not_clear};
 ghost use Rattle.change.specs.Heads.{numbered, slot_of};
 ghost use Rattle.register.specs.Held.{register_of};
 ghost use Rattle.stage.specs.Stages.{ranks};
 ghost use Rattle.register.specs.Registers.{no_row};
-ghost use Rattle.service.specs.Calls.{why_not, noLease, alone, unlessQuiet, write, take_away, read, look, loan, make, raise, turn, lower, fill, clear, by_all_rows};
+ghost use Rattle.service.specs.Calls.{why_not, no_lease, alone, unless_quiet, write, take_away, read, look, loan, make, raise, turn, lower, fill, clear, by_all_rows};
 ghost use Rattle.service.specs.Held.{limits, store_of, claim_of, call_of};
 
 use super::kinds::{Call, Claim};
@@ -22,7 +22,7 @@ pub(super) const OFFICES: u8 = 64;
 impl State {
     /// Whether an office has no running lease of this epoch and these stages.
     fn no_lease(&self, reading: u64, office: u8, claim: &Claim) -> bool
-        ensures { result ≡ noLease (limits self.now.long) (store_of self.now) reading office (claim_of claim.now) }
+        ensures { result ≡ no_lease (limits self.now.long) (store_of self.now) reading office (claim_of claim.now) }
     {
         claim.epoch != self.register.epoch()
             || !self.book.holds(self.long, reading, office, &claim.stages)
@@ -41,7 +41,7 @@ impl State {
 
     /// The refusal, or that of a store that is quiet after a stop.
     fn unless_quiet(&self, reading: u64, why: Option<Refusal>) -> Option<Refusal>
-        ensures { numbered result ≡ unlessQuiet (limits self.now.long) (store_of self.now) reading (numbered why) }
+        ensures { numbered result ≡ unless_quiet (limits self.now.long) (store_of self.now) reading (numbered why) }
     {
         match why {
             Some(refusal) => Some(refusal),
@@ -221,7 +221,7 @@ impl State {
 
 /// Why a change may not go up, if it may not.
 fn up_refusal(slot: Option<Index>, alone: bool) -> Option<Refusal>
-    ensures { numbered result ≡ whyNotUp 4096 alone (slot_of slot) }
+    ensures { numbered result ≡ why_not_up 4096 alone (slot_of slot) }
 {
     let Some(head) = slot else {
         return Some(Refusal::NoIndex);
@@ -234,7 +234,7 @@ fn up_refusal(slot: Option<Index>, alone: bool) -> Option<Refusal>
 
 /// Why a change may not turn, if it may not.
 fn turn_refusal(slot: Option<Index>, alone: bool) -> Option<Refusal>
-    ensures { numbered result ≡ whyNotTurn alone (slot_of slot) }
+    ensures { numbered result ≡ why_not_turn alone (slot_of slot) }
 {
     let Some(head) = slot else {
         return Some(Refusal::NoIndex);
@@ -247,7 +247,7 @@ fn turn_refusal(slot: Option<Index>, alone: bool) -> Option<Refusal>
 
 /// Why a change may not go down, if it may not.
 fn down_refusal(slot: Option<Index>, alone: bool) -> Option<Refusal>
-    ensures { numbered result ≡ whyNotDown 4096 alone (slot_of slot) }
+    ensures { numbered result ≡ why_not_down 4096 alone (slot_of slot) }
 {
     let Some(head) = slot else {
         return Some(Refusal::NoIndex);
@@ -260,7 +260,7 @@ fn down_refusal(slot: Option<Index>, alone: bool) -> Option<Refusal>
 
 /// Why backfill may not go on, if it may not.
 fn fill_refusal(slot: Option<Index>, alone: bool) -> Option<Refusal>
-    ensures { numbered result ≡ whyNotFill 4096 alone (slot_of slot) }
+    ensures { numbered result ≡ why_not_fill 4096 alone (slot_of slot) }
 {
     match slot {
         Some(head) => change::why_not_fill(head, alone),
@@ -270,7 +270,7 @@ fn fill_refusal(slot: Option<Index>, alone: bool) -> Option<Refusal>
 
 /// Why cleanup may not go on, if it may not.
 fn clear_refusal(slot: Option<Index>, alone: bool) -> Option<Refusal>
-    ensures { numbered result ≡ whyNotClear 4096 alone (slot_of slot) }
+    ensures { numbered result ≡ why_not_clear 4096 alone (slot_of slot) }
 {
     match slot {
         Some(head) => change::why_not_clear(head, alone),

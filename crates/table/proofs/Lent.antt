@@ -18,11 +18,11 @@ module _ {A Z : Type 0} (v : Vec A Z) (us ws : List A) (l : Lent v us ws) where
 
 -- what two lists of words say of each key, after one key has changed
 module _ {X Z : Type 0} (at : List ℕ → List ℕ → ℕ → X) (k : ℕ) (x : X) (p q : Vec ℕ Z) (vs ls : List ℕ) (b : Lent q vs ls) where
-  pub keys-lent : ((j : ℕ) → at (vec_items p) ls j ≡ update k x (at (vec_items p) vs) j)
+  pub keys_lent : ((j : ℕ) → at (vec_items p) ls j ≡ update k x (at (vec_items p) vs) j)
       → (j : ℕ) → at (vec_items p) (with_items q ls).items j ≡ update k x (at (vec_items p) (vec_items q)) j
-  keys-lent f j = ap (λ ks. at (vec_items p) ks j) (lent q vs ls b) ∙ f j ∙ ap (λ ks. update k x (at (vec_items p) ks) j) b.value
+  keys_lent f j = ap (λ ks. at (vec_items p) ks j) (lent q vs ls b) ∙ f j ∙ ap (λ ks. update k x (at (vec_items p) ks) j) b.value
 
-  pub both-lent : (us ws : List ℕ) → Lent p us ws → ((j : ℕ) → at ws ls j ≡ update k x (at us vs) j)
+  pub both_lent : (us ws : List ℕ) → Lent p us ws → ((j : ℕ) → at ws ls j ≡ update k x (at us vs) j)
       → (j : ℕ) → at (with_items p ws).items (with_items q ls).items j ≡ update k x (at (vec_items p) (vec_items q)) j
-  both-lent us ws a f j =
+  both_lent us ws a f j =
       ap₂ (λ n m. at n m j) (lent p us ws a) (lent q vs ls b) ∙ f j ∙ ap₂ (λ n m. update k x (at n m) j) a.value b.value

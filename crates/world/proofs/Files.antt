@@ -2,7 +2,7 @@
 use Rattle.std.proofs.Common.{◌≡◌, ℕ, zero, suc, ◌+◌, ◌-◌, ◌^◌, ◌<◌, Bool, true, false, cond, List, [], ◌∷◌, ◌++◌, take, drop, Some, None, Option, sym, refl, ap, ◌∙◌, subst, ap₂, inl, inr, true≢false, append_assoc, arith, take-append-drop, lt-ltb}
 use mathlib.Core.Path.{subst⁻¹}
 use mathlib.Core.List.Memᴰ
-use Rattle.change.specs.Protocol.{Head, gone, there, done_of, whyNotFill, whyNotClear}
+use Rattle.change.specs.Protocol.{Head, gone, there, done_of, why_not_fill, why_not_clear}
 use Rattle.change.specs.Index.{About}
 use Rattle.change.specs.OneChange.{is_none}
 use Rattle.register.specs.Registers.{Register, Record, bare, put, removed, made, went_up, turned, went_down, filled, cleared, came_up, applied, replayed, doable, all_doable}
@@ -15,8 +15,8 @@ use Rattle.journal.specs.Bytes.{Columns, Writable, AllWritable, all_bytes, is_pa
 use Rattle.journal.proofs.Cuts.{all_append, cut_anywhere}
 use Rattle.lease.specs.Leases.{Among}
 use Rattle.lease.specs.Clocks.{Times, Fits}
-use Rattle.world.specs.Calls.{Limits, Store, Call, write, take_away, read, look, loan, make, raise, turn, lower, fill, clear, by_all_rows, record_by, why_not, record_of, recorded, turnsBack}
-use Rattle.world.specs.World.{World, written, says, list_of, Event, passes, calls, syncs, stops, comes_up, then, after-all, Possible, one_more}
+use Rattle.world.specs.Calls.{Limits, Store, Call, write, take_away, read, look, loan, make, raise, turn, lower, fill, clear, by_all_rows, record_by, why_not, record_of, recorded, turns_back}
+use Rattle.world.specs.World.{World, written, says, list_of, Event, passes, calls, syncs, stops, comes_up, then, after_all, Possible, one_more}
 use Rattle.world.specs.Promise.{Promise}
 use Rattle.world.specs.Reached.{limits, times_of}
 use Rattle.world.specs.Files.{Proper, AllProper, file_of, left_of, StopsCutBytes, ReadsWhatIsLeft}
@@ -62,49 +62,49 @@ maybe (Some y) f = one y f
 
 -- of a call with a proper row
 module _ (m : Limits) (s : Store) (t : ℕ) where
-  turns-or-fills : (b : Bool) (i k : ℕ) → ProperRow (cond b (turned i) (filled i k))
-  turns-or-fills true i k = tt
-  turns-or-fills false i k = tt
+  turns_or_fills : (b : Bool) (i k : ℕ) → ProperRow (cond b (turned i) (filled i k))
+  turns_or_fills true i k = tt
+  turns_or_fills false i k = tt
 
-  record-proper : (c : Call) → Proper c → ProperMaybe (record_of m s t c)
-  record-proper (write o c k n) f = f
-  record-proper (take_away o c k) f = tt
-  record-proper (read o k) f = tt
-  record-proper (look o c i v) f = tt
-  record-proper (loan o) f = tt
-  record-proper (make i c u) f = tt
-  record-proper (raise i) f = tt
-  record-proper (turn i) f = tt
-  record-proper (lower i) f = tt
-  record-proper (fill i) f = turns-or-fills (turnsBack m s t i) i _
-  record-proper (clear i) f = tt
-  record-proper (by_all_rows i v) f = tt
+  record_proper : (c : Call) → Proper c → ProperMaybe (record_of m s t c)
+  record_proper (write o c k n) f = f
+  record_proper (take_away o c k) f = tt
+  record_proper (read o k) f = tt
+  record_proper (look o c i v) f = tt
+  record_proper (loan o) f = tt
+  record_proper (make i c u) f = tt
+  record_proper (raise i) f = tt
+  record_proper (turn i) f = tt
+  record_proper (lower i) f = tt
+  record_proper (fill i) f = turns_or_fills (turns_back m s t i) i _
+  record_proper (clear i) f = tt
+  record_proper (by_all_rows i v) f = tt
 
-  unless-refused : (why : Option ℕ) (y : Option Record) → ProperMaybe y → ProperMaybe (record_by why y)
-  unless-refused None y f = f
-  unless-refused (Some n) y f = tt
+  unless_refused : (why : Option ℕ) (y : Option Record) → ProperMaybe y → ProperMaybe (record_by why y)
+  unless_refused None y f = f
+  unless_refused (Some n) y f = tt
 
 -- what is written has proper rows
 module _ (m : Limits) (p : Times) (base : Register) where
-  proper : (es : List Event) → AllProper es → ProperRows (after-all m p base es).journal × ProperRows (after-all m p base es).pending
-  unfolding after-all AllProper
+  proper : (es : List Event) → AllProper es → ProperRows (after_all m p base es).journal × ProperRows (after_all m p base es).pending
+  unfolding after_all AllProper
   proper [] f = (none, none)
   proper (passes t ∷ es) f = proper es f
   proper (calls a c ∷ es) (f, fs) =
-      let w = after-all m p base es in
+      let w = after_all m p base es in
       let t = w.clock w.moment in
       let (j, q) = proper es fs in
-      (j, both w.pending _ q (maybe _ (unless-refused m w.store t (why_not m w.store t c) _ (record-proper m w.store t c f))))
-  proper (syncs ∷ es) f = let (j, q) = proper es f in (both (after-all m p base es).journal _ j q, none)
-  proper (stops n ∷ es) f = let (j, q) = proper es f in (j, some n (after-all m p base es).pending q)
-  proper (comes_up clock ∷ es) f = let (j, q) = proper es f in (j, both (after-all m p base es).pending _ q (one came_up tt))
+      (j, both w.pending _ q (maybe _ (unless_refused m w.store t (why_not m w.store t c) _ (record_proper m w.store t c f))))
+  proper (syncs ∷ es) f = let (j, q) = proper es f in (both (after_all m p base es).journal _ j q, none)
+  proper (stops n ∷ es) f = let (j, q) = proper es f in (j, some n (after_all m p base es).pending q)
+  proper (comes_up clock ∷ es) f = let (j, q) = proper es f in (j, both (after_all m p base es).pending _ q (one came_up tt))
 
 -- the next key of backfill or cleanup is a key
-fill_low : (h : Head About) → is_none (whyNotFill 4096 true h) ≡ true → done_of h < 4096
+fill_low : (h : Head About) → is_none (why_not_fill 4096 true h) ≡ true → done_of h < 4096
 fill_low gone e = absurd (grind arith)
 fill_low (there a w s d) e = grind arith
 
-clear_low : (h : Head About) → is_none (whyNotClear 4096 true h) ≡ true → done_of h < 4096
+clear_low : (h : Head About) → is_none (why_not_clear 4096 true h) ≡ true → done_of h < 4096
 clear_low gone e = absurd (grind arith)
 clear_low (there a w s d) e = grind arith
 
@@ -116,8 +116,8 @@ writable_one (made i c u) r e f = (grind arith, grind arith)
 writable_one (went_up i) r e f = grind arith
 writable_one (turned i) r e f = grind arith
 writable_one (went_down i) r e f = grind arith
-writable_one (filled i k) r e f = let low = fill_low (r.head i) in let (may, next) : (is_none (whyNotFill 4096 true (r.head i)) ≡ true) × (k ≡ done_of (r.head i)) = grind arith in (grind arith, let q = low may in omega arith)
-writable_one (cleared i k) r e f = let low = clear_low (r.head i) in let (may, next) : (is_none (whyNotClear 4096 true (r.head i)) ≡ true) × (k ≡ done_of (r.head i)) = grind arith in (grind arith, let q = low may in omega arith)
+writable_one (filled i k) r e f = let low = fill_low (r.head i) in let (may, next) : (is_none (why_not_fill 4096 true (r.head i)) ≡ true) × (k ≡ done_of (r.head i)) = grind arith in (grind arith, let q = low may in omega arith)
+writable_one (cleared i k) r e f = let low = clear_low (r.head i) in let (may, next) : (is_none (why_not_clear 4096 true (r.head i)) ≡ true) × (k ≡ done_of (r.head i)) = grind arith in (grind arith, let q = low may in omega arith)
 writable_one came_up r e f = tt
 
 writable : (xs : List Record) (r : Register) → all_doable 4096 8 8 xs r ≡ true → ProperRows xs → AllWritable xs
@@ -133,7 +133,7 @@ writable_behind (x ∷ xs) ys f = writable_behind xs ys f.1
 -- wherever a stop cuts, whole records are left and less than one more
 pub stops_cut_bytes : StopsCutBytes
 stops_cut_bytes long short rate base fits whole es possible all n =
-    let w = after-all (limits long) (times_of short rate) base es in
+    let w = after_all (limits long) (times_of short rate) base es in
     let (j, q) = proper (limits long) (times_of short rate) base es all in
     let promise = (promises.keeps (limits long) (times_of short rate) (λ o t. t - 0) (record { some_grain = omega arith; within = fits }) (λ o. exact short rate 0) base whole es possible).0 in
     let written_All = writable (written w) w.base promise.replays (both w.journal w.pending j q) in
@@ -166,8 +166,8 @@ can_all (x ∷ xs) r e l =
     grind arith
 
 -- the store has found one register
-base_stays : (m : Limits) (p : Times) (base : Register) (es : List Event) → (after-all m p base es).base ≡ base
-unfolding after-all
+base_stays : (m : Limits) (p : Times) (base : Register) (es : List Event) → (after_all m p base es).base ≡ base
+unfolding after_all
 base_stays m p base [] = refl
 base_stays m p base (passes t ∷ es) = base_stays m p base es
 base_stays m p base (calls a c ∷ es) = base_stays m p base es
@@ -183,17 +183,17 @@ not_stuck bs r e (inr (x, rest, w, q, cannot)) = no_part x rest w (subst (λ z. 
 -- what a stop leaves is read as the records that it left
 module _ (long short rate : ℕ) (fits : Fits long short rate) (es : List Event) (possible : Possible (limits long) (times_of short rate) bare es) (all : AllProper es) where
   abbrev w : World
-  w = after-all (limits long) (times_of short rate) bare es
+  w = after_all (limits long) (times_of short rate) bare es
 
   abbrev left : ℕ → World
   left k = then (limits long) (times_of short rate) (stops k) w
 
-  promised : (k : ℕ) → Promise (limits long) (times_of short rate) (λ o t. t - 0) (after-all (limits long) (times_of short rate) bare (stops k ∷ es))
+  promised : (k : ℕ) → Promise (limits long) (times_of short rate) (λ o t. t - 0) (after_all (limits long) (times_of short rate) bare (stops k ∷ es))
   promised k = (promises.keeps (limits long) (times_of short rate) (λ o t. t - 0) (record { some_grain = omega arith; within = fits }) (λ o. exact short rate 0) bare (promises.empty_whole 4096 8) (stops k ∷ es) (one_more (stops k) es possible tt)).0
 
   pub read_left : (says w).epoch < 2 ^ 64 → (n : ℕ) → (k : ℕ) × (
       ((rest : List ℕ) (r : Register) → Through (left_of n w) bare rest r → (r ≡ says (left k)) × (left_of n w ≡ file_of (left k) ++ rest) × Whole 4096 8 r) × ((r : Register) → Refusing (left_of n w) bare r → ⊥))
-  unfolding after-all
+  unfolding after_all
   read_left low n = (k, (read, never))
     where
       cut : (k : ℕ) × (part : List ℕ) × (left_of n w ≡ file_of (left k) ++ part) × (is_part part ≡ true)

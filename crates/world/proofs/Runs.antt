@@ -8,7 +8,7 @@ use Rattle.register.specs.Registers.{Register, applied, came_up, replayed, rows_
 use Rattle.register.specs.Whole.{Whole}
 use Rattle.table.specs.Update.{keys_for}
 use Rattle.world.specs.Calls.{Store, Claim, Call, look, found, answered, after}
-use Rattle.world.specs.World.{World, Event, passes, calls, comes_up, none_yet, one_more, after-all, written, says}
+use Rattle.world.specs.World.{World, Event, passes, calls, comes_up, none_yet, one_more, after_all, written, says}
 use Rattle.world.specs.Reached.{limits, times_of, Reached, Promised, HasPromises, Continues}
 use Rattle.world.proofs.Worlds.{one_record_more}
 use Rattle.world.proofs.Promises as promises
@@ -23,12 +23,12 @@ exact short rate since = record {
 
 module _ (long short rate : ℕ) where
   abbrev at : Register → List Event → World
-  at base es = after-all (limits long) (times_of short rate) base es
+  at base es = after_all (limits long) (times_of short rate) base es
 
   -- the store comes up for the first time
-  pub first-up : (base : Register) → Whole 4096 8 base → Reached long short rate (record { register = applied came_up base; leases = [] }) 0
-  unfolding after-all replayed
-  first-up base whole = record {
+  pub first_up : (base : Register) → Whole 4096 8 base → Reached long short rate (record { register = applied came_up base; leases = [] }) 0
+  unfolding after_all replayed
+  first_up base whole = record {
     base = base;
     whole = whole;
     events = comes_up (λ t. t - 0) ∷ [];
@@ -42,7 +42,7 @@ module _ (long short rate : ℕ) where
 
   -- time passes
   pub later : (s : Store) (n m : ℕ) → n ≤ m → Reached long short rate s n → Reached long short rate s m
-  unfolding after-all
+  unfolding after_all
   later s n m h r = record {
     base = r.base;
     whole = r.whole;
@@ -60,7 +60,7 @@ module _ (long short rate : ℕ) where
 
   -- a call comes
   at_call : (s : Store) (n : ℕ) (c : Call) → Reached long short rate s n → Reached long short rate (after (limits long) s n c) n
-  unfolding after-all
+  unfolding after_all
   at_call s n c r =
       let w = at r.base r.events in
       record {
@@ -85,8 +85,8 @@ module _ (long short rate : ℕ) where
   fit f = record { some_grain = lit≤ tt; within = f }
 
   -- it has the promises
-  pub has-promises : Fits long short rate → (s : Store) (n : ℕ) → ∥ Reached long short rate s n ∥₁ → HasPromises long short rate s n
-  has-promises f s n r clocks counts = ∥∥₁_map r (λ x.
+  pub has_promises : Fits long short rate → (s : Store) (n : ℕ) → ∥ Reached long short rate s n ∥₁ → HasPromises long short rate s n
+  has_promises f s n r clocks counts = ∥∥₁_map r (λ x.
       let (promise, ends) = promises.keeps (limits long) (times_of short rate) clocks (fit f) counts x.base x.whole x.events x.possible in
       record { base = x.base; whole = x.whole; events = x.events; possible = x.possible; up = x.up; store = x.store; reads = shows s n x; promise = promise; can_end = ends })
 
@@ -102,7 +102,7 @@ module _ (long short rate : ℕ) where
 
   -- a store that was stopped goes on with what its journal says
   pub continues : (r : Register) (s : Store) → s ≡ record { register = applied came_up r; leases = [] } → Continues long short rate r s
-  unfolding after-all
+  unfolding after_all
   continues r s e base es clock q =
       let w = at base es in
       let more : replayed (w.journal ++ (w.pending ++ (came_up ∷ []))) w.base ≡ applied came_up r =

@@ -6,15 +6,15 @@ use Rattle.register.specs.Registers.{bare, replayed, all_stages, stages_now}
 use Rattle.lease.specs.Leases.{same_list, holds, all_at, left_beside}
 use Rattle.lease.specs.Clocks.{Counts}
 use Rattle.world.specs.Calls.{}
-use Rattle.world.specs.World.{Possible, none_yet, one_more, after-all}
-use Rattle.world.specs.Promise.{byOwn}
+use Rattle.world.specs.World.{Possible, none_yet, one_more, after_all}
+use Rattle.world.specs.Promise.{by_own}
 use Rattle.world.specs.Examples.{small, times, since, three, to_public, CanRun}
 
 good_since : (u : ℕ) → Counts times u (since u)
 good_since u = record { rises = λ a b f l. omega arith; not_fast = λ a b f l. omega arith; not_slow = λ a b f l. omega arith }
 
 public_possible : Possible small times bare to_public
-unfolding after-all stages_now all_at holds left_beside same_list any_below all_stages replayed
+unfolding after_all stages_now all_at holds left_beside same_list any_below all_stages replayed
 public_possible =
     one_more _ _ (one_more _ _ (one_more _ _ (one_more _ _ (one_more _ _
     (one_more _ _ (one_more _ _ (one_more _ _ (one_more _ _ (one_more _ _ (one_more _ _ (one_more _ _
@@ -23,7 +23,7 @@ public_possible =
     tt) (refl, omega arith)) (refl, omega arith)) tt) refl
 
 pub can_run : CanRun
-unfolding after-all stages_now all_at holds left_beside same_list any_below keys_below all_stages replayed
+unfolding after_all stages_now all_at holds left_beside same_list any_below keys_below all_stages replayed
 can_run = record {
   fits = record { some_grain = omega arith; within = omega arith };
   counts = λ o. record { rises = λ a b f l. l; not_fast = λ a b f l. omega arith; not_slow = λ a b f l. omega arith };
@@ -41,5 +41,5 @@ can_run = record {
   head = refl;
   rows = (refl, refl);
   found = (refl, refl, refl);
-  in_public = byOwn 0 31 three (Memᴰ.tail (Memᴰ.head refl)) refl refl;
+  in_public = by_own 0 31 three (Memᴰ.tail (Memᴰ.head refl)) refl refl;
 }

@@ -9,7 +9,7 @@ use Rattle.change.specs.Index.{About}
 use Rattle.register.specs.Registers.{bare}
 use Rattle.lease.specs.Clocks.{Times, Fit, acts}
 use Rattle.world.specs.Calls.{Limits, Claim, Call, write, look, loan, make, raise, fill, Answer, ok, found, lent, turned_back, refused}
-use Rattle.world.specs.World.{World, says, Event, passes, calls, syncs, stops, comes_up, reply_to, after-all, Possible}
+use Rattle.world.specs.World.{World, says, Event, passes, calls, syncs, stops, comes_up, reply_to, after_all, Possible}
 use Rattle.world.specs.Reached.{times_of}
 
 infix 70 ◌gets◌
@@ -55,44 +55,44 @@ entries_below f (suc n) = entries_below f n ++ pair_of n (f n)
 
 module _ (keys : ℕ) where
   -- the world after these events, the newest first
-  abbrev pub worldAfter : List Event → World
-  worldAfter es = after-all (limits_with keys) times bare es
+  abbrev pub world_after : List Event → World
+  world_after es = after_all (limits_with keys) times bare es
 
   -- these events and those of a step that comes after them
-  abbrev pub withStep : List Event → Step → List Event
-  withStep es (waits t) = passes t ∷ es
-  withStep es starts = let since = (worldAfter es).moment in comes_up (λ t. t - since) ∷ es
-  withStep es halts = stops 0 ∷ es
-  withStep es (c gets a) = syncs ∷ calls (worldAfter es).moment c ∷ es
-  withStep es (entries xs) = es
-  withStep es (head h) = es
-  withStep es (awake a b) = es
+  abbrev pub with_step : List Event → Step → List Event
+  with_step es (waits t) = passes t ∷ es
+  with_step es starts = let since = (world_after es).moment in comes_up (λ t. t - since) ∷ es
+  with_step es halts = stops 0 ∷ es
+  with_step es (c gets a) = syncs ∷ calls (world_after es).moment c ∷ es
+  with_step es (entries xs) = es
+  with_step es (head h) = es
+  with_step es (awake a b) = es
 
   -- these events and those of the steps that come after them
-  unfoldable pub withSteps : List Event → List Step → List Event
-  withSteps es [] = es
-  withSteps es (s ∷ ss) = withSteps (withStep es s) ss
+  unfoldable pub with_steps : List Event → List Step → List Event
+  with_steps es [] = es
+  with_steps es (s ∷ ss) = with_steps (with_step es s) ss
 
   -- a step after these events as it goes: with the answer that is given, or what is there
-  abbrev pub asItGoes : List Event → Step → Step
-  asItGoes es (waits t) = waits t
-  asItGoes es starts = starts
-  asItGoes es halts = halts
-  asItGoes es (c gets a) = let w = worldAfter es in c gets (reply_to (limits_with keys) times w w.moment c).answer
-  asItGoes es (entries xs) = entries (entries_below ((says (worldAfter es)).entry 0) keys)
-  asItGoes es (head h) = head ((says (worldAfter es)).head 0)
-  asItGoes es (awake a b) = awake a (acts times.short a (worldAfter es).moment)
+  abbrev pub as_it_goes : List Event → Step → Step
+  as_it_goes es (waits t) = waits t
+  as_it_goes es starts = starts
+  as_it_goes es halts = halts
+  as_it_goes es (c gets a) = let w = world_after es in c gets (reply_to (limits_with keys) times w w.moment c).answer
+  as_it_goes es (entries xs) = entries (entries_below ((says (world_after es)).entry 0) keys)
+  as_it_goes es (head h) = head ((says (world_after es)).head 0)
+  as_it_goes es (awake a b) = awake a (acts times.short a (world_after es).moment)
 
   -- the steps after these events as they go
-  unfoldable pub asTheyGo : List Event → List Step → List Step
-  asTheyGo es [] = []
-  asTheyGo es (s ∷ ss) = asItGoes es s ∷ asTheyGo (withStep es s) ss
+  unfoldable pub as_they_go : List Event → List Step → List Step
+  as_they_go es [] = []
+  as_they_go es (s ∷ ss) = as_it_goes es s ∷ as_they_go (with_step es s) ss
 
 -- the run can come about, in times that fit, and goes as its steps say
 pub record Holds (x : Case) : Type 0 where
   pub fits : Fit (limits_with x.keys).long times
-  pub possible : Possible (limits_with x.keys) times bare (withSteps x.keys [] x.steps)
-  pub goes : asTheyGo x.keys [] x.steps ≡ x.steps
+  pub possible : Possible (limits_with x.keys) times bare (with_steps x.keys [] x.steps)
+  pub goes : as_they_go x.keys [] x.steps ≡ x.steps
 
 -- each of them holds
 abbrev pub AllHold : List Case → Type 0

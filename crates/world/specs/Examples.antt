@@ -6,7 +6,7 @@ use Rattle.change.specs.Protocol.{up, there}
 use Rattle.register.specs.Registers.{bare, put, made, went_up, filled, came_up}
 use Rattle.lease.specs.Clocks.{Times, Counts, Fit}
 use Rattle.world.specs.Calls.{Limits, Claim, ok, refused, write, loan, make, raise, fill}
-use Rattle.world.specs.World.{World, written, says, Has, Acts, Event, passes, calls, syncs, stops, comes_up, Possible, after-all}
+use Rattle.world.specs.World.{World, written, says, Has, Acts, Event, passes, calls, syncs, stops, comes_up, Possible, after_all}
 use Rattle.world.specs.Promise.{In, answer}
 
 -- two keys, one index, one column, two offices
@@ -49,11 +49,11 @@ run =
 
 -- the world in which the index is public
 abbrev pub public : World
-public = after-all small times bare to_public
+public = after_all small times bare to_public
 
 -- the world in which the store is up again
 abbrev pub end : World
-end = after-all small times bare run
+end = after_all small times bare run
 
 -- this run can come about, and leads there
 pub record CanRun : Type 0 where
@@ -66,7 +66,7 @@ pub record CanRun : Type 0 where
   pub epoch : three.epoch ≡ (says public).epoch
   pub wrote : answer small times clocks public (write 0 three 1 (row 7)) ≡ ok
   -- a value that another key has is refused
-  pub taken : answer small times clocks (after-all small times bare (calls 32 (write 0 three 1 (row 7)) ∷ to_public)) (write 1 three 0 (row 7)) ≡ refused 4
+  pub taken : answer small times clocks (after_all small times bare (calls 32 (write 0 three 1 (row 7)) ∷ to_public)) (write 1 three 0 (row 7)) ≡ refused 4
   -- two of the four writes were kept
   pub left : written end ≡ came_up ∷ made 0 0 true ∷ went_up 0 ∷ went_up 0 ∷ filled 0 0 ∷ filled 0 1 ∷ went_up 0 ∷ put 1 (row 7) (3 ∷ []) ∷ put 0 (row 8) (3 ∷ []) ∷ came_up ∷ []
   pub head : (says end).head 0 ≡ there (record { column = 0; unique = true }) up 3 0

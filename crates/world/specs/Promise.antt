@@ -2,14 +2,14 @@
 use Rattle.std.specs.Prelude.{◌≡◌, ℕ, ◌+◌, ◌*◌, ◌^◌, ◌<◌, ◌≤◌, true, ◌||◌, ◌⊎◌, List, [], ◌∷◌, ◌++◌, length, Some, None, ◌≢◌}
 use Rattle.table.specs.declared.row.Row.{Row}
 use Rattle.table.specs.Update.{keys_for}
-use Rattle.change.specs.Protocol.{Way, up, gone, there, stageOf}
+use Rattle.change.specs.Protocol.{Way, up, gone, there, stage_of}
 use Rattle.change.specs.Index.{About, unique_of, NoOrphan, NoneTwice}
 use Rattle.register.specs.Registers.{Register, Record, came_up, rows_of, cell_of, row_after, all_doable}
 use Rattle.register.specs.Whole.{Whole}
 use Rattle.lease.specs.Leases.{Lease, stage_at, Among, Once}
 use Rattle.lease.specs.Clocks.{Times, Counts, Fit}
-use Rattle.world.specs.Calls.{Limits, Claim, Call, write, take_away, read, look, loan, make, raise, turn, lower, fill, clear, by_all_rows, Answer, ok, there_is, found, lent, refused, noOffice, noKey, noClaim, noLease, answered}
-use Rattle.world.specs.World.{Reply, World, written, says, Has, list_of, Event, passes, calls, syncs, stops, comes_up, then, after-all, Possible, Acts, Runs}
+use Rattle.world.specs.Calls.{Limits, Claim, Call, write, take_away, read, look, loan, make, raise, turn, lower, fill, clear, by_all_rows, Answer, ok, there_is, found, lent, refused, no_office, no_key, no_claim, no_lease, answered}
+use Rattle.world.specs.World.{Reply, World, written, says, Has, list_of, Event, passes, calls, syncs, stops, comes_up, then, after_all, Possible, Acts, Runs}
 
 -- two keys have rows with one value in the column of an index
 abbrev pub Alike : Register → (index : ℕ) → Type 0
@@ -67,17 +67,17 @@ Serves (comes_up c) = Unit {0}
 
 -- what is synced stays, whatever comes
 abbrev pub Stays : Limits → Times → Register → Type 0
-Stays m p b = (more es : List Event) → (xs : List Record) × ((after-all m p b (more ++ es)).journal ≡ (after-all m p b es).journal ++ xs)
+Stays m p b = (more es : List Event) → (xs : List Record) × ((after_all m p b (more ++ es)).journal ≡ (after_all m p b es).journal ++ xs)
 
 -- a stop leaves what was written after some earlier event
 abbrev pub StopsBetween : Limits → Times → Register → Type 0
-StopsBetween m p b = (es : List Event) (n : ℕ) → (late early : List Event) × (late ++ early ≡ es) × (written (after-all m p b (stops n ∷ es)) ≡ written (after-all m p b early))
+StopsBetween m p b = (es : List Event) (n : ℕ) → (late early : List Event) × (late ++ early ≡ es) × (written (after_all m p b (stops n ∷ es)) ≡ written (after_all m p b early))
 
 module _ (m : Limits) (p : Times) (clocks : ℕ → ℕ → ℕ) where
   -- somebody is in a stage of an index: by a lease that the store has noted and that runs, or by their own clock
   pub data In (w : World) (i s : ℕ) : Type 0 where
-    byStore : (l : Lease) → Among l w.store.leases → Runs m p w l → stage_at l.stages i ≡ s → In w i s
-    byOwn : (o a : ℕ) (c : Claim) → Has w o a c → Acts m p clocks w o a → stage_at c.stages i ≡ s → In w i s
+    by_store : (l : Lease) → Among l w.store.leases → Runs m p w l → stage_at l.stages i ≡ s → In w i s
+    by_own : (o a : ℕ) (c : Claim) → Has w o a c → Acts m p clocks w o a → stage_at c.stages i ≡ s → In w i s
 
   -- what the store answers now
   abbrev pub answer : World → Call → Answer
@@ -86,15 +86,15 @@ module _ (m : Limits) (p : Times) (clocks : ℕ → ℕ → ℕ) where
   -- what may be answered to a write: 1 where it is out of range, 2 where no lease of its epoch and stages runs, 4 only where another key's row has the value in a unique index
   pub data ToWrite (w : World) (o : ℕ) (c : Claim) (k : ℕ) (n : Row) : Answer → Type 0 where
     done : ToWrite w o c k n ok
-    outOfRange : (noOffice m o || noKey m k || noClaim m c) ≡ true → ToWrite w o c k n (refused 1)
-    noLeaseRuns : noLease m w.store (w.clock w.moment) o c ≡ true → ToWrite w o c k n (refused 2)
+    out_of_range : (no_office m o || no_key m k || no_claim m c) ≡ true → ToWrite w o c k n (refused 1)
+    no_lease_runs : no_lease m w.store (w.clock w.moment) o c ≡ true → ToWrite w o c k n (refused 2)
     taken : (i j v : ℕ) → unique_of ((says w).head i) ≡ true → (j ≢ k) → rows_of i (says w) j ≡ Some v → cell_of ((says w).head i) (Some n) ≡ Some v → ToWrite w o c k n (refused 4)
 
   -- what may be answered to a reading
   pub data ToRead (w : World) (o k : ℕ) : Answer → Type 0 where
-    itsRow : (n : Row) → (says w).row k ≡ Some n → ToRead w o k (there_is n)
-    outOfRange : (noOffice m o || noKey m k) ≡ true → ToRead w o k (refused 1)
-    isNoRow : (says w).row k ≡ None → ToRead w o k (refused 9)
+    its_row : (n : Row) → (says w).row k ≡ Some n → ToRead w o k (there_is n)
+    out_of_range : (no_office m o || no_key m k) ≡ true → ToRead w o k (refused 1)
+    is_no_row : (says w).row k ≡ None → ToRead w o k (refused 9)
 
   -- what the store answers while it is up
   pub record Answers (w : World) : Type 0 where
@@ -120,13 +120,13 @@ module _ (m : Limits) (p : Times) (clocks : ℕ → ℕ → ℕ) where
     -- whoever is in public finds by the index what a look through all rows finds
     pub looks_right : (i v : ℕ) → In w i 3 → keys_for m.keys ((says w).entry i) v ≡ keys_for m.keys (rows_of i (says w)) v
     -- no two rows have one value in a unique index that is public, or that somebody is in public of
-    pub one_number : (i : ℕ) → unique_of ((says w).head i) ≡ true → In w i 3 ⊎ (stageOf ((says w).head i) ≡ 3) → NoneTwice (rows_of i (says w))
+    pub one_number : (i : ℕ) → unique_of ((says w).head i) ≡ true → In w i 3 ⊎ (stage_of ((says w).head i) ≡ 3) → NoneTwice (rows_of i (says w))
     -- an index that is gone leaves no entry
     pub leaves_nothing : (i : ℕ) → (says w).head i ≡ gone → (k : ℕ) → (says w).entry i k ≡ None
     -- the register is what its journal says
     pub lasts : w.is_up ≡ true → w.store.register ≡ says w
     -- what was answered is synced, in the order of the answers
-    pub answeredLasts : InOrder (records_of w.told) w.journal
+    pub answered_lasts : InOrder (records_of w.told) w.journal
     -- and nothing else is written while the store is up
     pub exact : w.is_up ≡ true → SinceUp w
     -- a key's row is what the last write or taking away left, or as the store found it
@@ -136,9 +136,9 @@ module _ (m : Limits) (p : Times) (clocks : ℕ → ℕ → ℕ) where
     -- and gives a register with which a store may come up
     pub whole : Whole m.keys m.indexes (says w)
     -- no office has two leases of the same stages in the book
-    pub bookOnce : Once w.store.leases
+    pub book_once : Once w.store.leases
     -- and the book stays small
-    pub bookSmall : length w.store.leases ≤ m.offices * 2 ^ m.indexes
+    pub book_small : length w.store.leases ≤ m.offices * 2 ^ m.indexes
     -- what is answered while the store is up
     pub answers : w.is_up ≡ true → Answers w
 
@@ -155,14 +155,14 @@ module _ (m : Limits) (p : Times) (clocks : ℕ → ℕ → ℕ) (b : Register) 
   -- more events that serve lead to such a world, with the same rows, all synced
   abbrev pub Leads : List Event → (World → Type 0) → Type 0
   Leads es P = (more : List Event) × ((e : Event) → Among e more → Serves e) × Possible m p b (more ++ es) ×
-      (let w = after-all m p b (more ++ es) in ((says w).row ≡ (says (after-all m p b es)).row) × (w.pending ≡ []) × P w)
+      (let w = after_all m p b (more ++ es) in ((says w).row ≡ (says (after_all m p b es)).row) × (w.pending ≡ []) × P w)
 
   -- an index that goes up can be brought to public, or else, and never both, it is unique and two rows have one value; and any can be brought to be gone
   abbrev pub CanEnd : List Event → Type 0
-  CanEnd es = (i : ℕ) (a : About) (x : Way) (s d : ℕ) → (says (after-all m p b es)).head i ≡ there a x s d →
-      let twice = (a.unique ≡ true) × Alike (says (after-all m p b es)) i in
+  CanEnd es = (i : ℕ) (a : About) (x : Way) (s d : ℕ) → (says (after_all m p b es)).head i ≡ there a x s d →
+      let twice = (a.unique ≡ true) × Alike (says (after_all m p b es)) i in
       (x ≡ up → Leads es (Public m p clocks i a) ⊎ twice) × (Leads es (Public m p clocks i a) → twice → ⊥) × Leads es (Gone m p clocks i)
 
   -- the theorem: for fitting times and clocks that count, all of this holds after every list of events from a register on in which nothing is wrong, as the empty one
   abbrev pub Keeps : Type 0
-  Keeps = Fit m.long p → ((o : ℕ) → Counts p 0 (clocks o)) → Whole m.keys m.indexes b → (es : List Event) → Possible m p b es → Promise m p clocks (after-all m p b es) × CanEnd es
+  Keeps = Fit m.long p → ((o : ℕ) → Counts p 0 (clocks o)) → Whole m.keys m.indexes b → (es : List Event) → Possible m p b es → Promise m p clocks (after_all m p b es) × CanEnd es

@@ -5,7 +5,7 @@ use Rattle.register.specs.Registers.{Register}
 use Rattle.register.specs.Whole.{Whole}
 use Rattle.lease.specs.Clocks.{Times, Counts}
 use Rattle.world.specs.Calls.{Limits, Store}
-use Rattle.world.specs.World.{Event, comes_up, Possible, says, after-all}
+use Rattle.world.specs.World.{Event, comes_up, Possible, says, after_all}
 use Rattle.world.specs.Promise.{Promise, CanEnd}
 
 -- the limits of the code; long is set when the store comes up
@@ -23,12 +23,12 @@ pub record Reached (long short rate : ℕ) (s : Store) (reading : ℕ) : Type 0 
   pub whole : Whole 4096 8 base
   pub events : List Event
   pub possible : Possible (limits long) (times_of short rate) base events
-  pub up : (after-all (limits long) (times_of short rate) base events).is_up ≡ true
-  pub store : (after-all (limits long) (times_of short rate) base events).store ≡ s
+  pub up : (after_all (limits long) (times_of short rate) base events).is_up ≡ true
+  pub store : (after_all (limits long) (times_of short rate) base events).store ≡ s
   -- the moment at which it came up
   pub since : ℕ
-  pub clock : (after-all (limits long) (times_of short rate) base events).clock ≡ (λ t. t - since)
-  pub moment : (after-all (limits long) (times_of short rate) base events).moment ≡ since + reading
+  pub clock : (after_all (limits long) (times_of short rate) base events).clock ≡ (λ t. t - since)
+  pub moment : (after_all (limits long) (times_of short rate) base events).moment ≡ since + reading
 
 -- the store is that of a world that has all the promises, whatever clocks the offices have
 pub record Promised (long short rate : ℕ) (clocks : ℕ → ℕ → ℕ) (s : Store) (reading : ℕ) : Type 0 where
@@ -37,10 +37,10 @@ pub record Promised (long short rate : ℕ) (clocks : ℕ → ℕ → ℕ) (s : 
   pub whole : Whole 4096 8 base
   pub events : List Event
   pub possible : Possible (limits long) (times_of short rate) base events
-  pub up : (after-all (limits long) (times_of short rate) base events).is_up ≡ true
-  pub store : (after-all (limits long) (times_of short rate) base events).store ≡ s
-  pub reads : (after-all (limits long) (times_of short rate) base events).clock (after-all (limits long) (times_of short rate) base events).moment ≡ reading
-  pub promise : Promise (limits long) (times_of short rate) clocks (after-all (limits long) (times_of short rate) base events)
+  pub up : (after_all (limits long) (times_of short rate) base events).is_up ≡ true
+  pub store : (after_all (limits long) (times_of short rate) base events).store ≡ s
+  pub reads : (after_all (limits long) (times_of short rate) base events).clock (after_all (limits long) (times_of short rate) base events).moment ≡ reading
+  pub promise : Promise (limits long) (times_of short rate) clocks (after_all (limits long) (times_of short rate) base events)
   pub can_end : CanEnd (limits long) (times_of short rate) clocks base events
 
 -- the store has all the promises
@@ -49,4 +49,4 @@ HasPromises long short rate s t = (clocks : ℕ → ℕ → ℕ) → ((o : ℕ) 
 
 -- where a list of events left the store down, and its journal says this register, that is the store that comes up then
 abbrev pub Continues : (long short rate : ℕ) → Register → Store → Type 0
-Continues long short rate r s = (base : Register) (events : List Event) (clock : ℕ → ℕ) → says (after-all (limits long) (times_of short rate) base events) ≡ r → (after-all (limits long) (times_of short rate) base (comes_up clock ∷ events)).store ≡ s
+Continues long short rate r s = (base : Register) (events : List Event) (clock : ℕ → ℕ) → says (after_all (limits long) (times_of short rate) base events) ≡ r → (after_all (limits long) (times_of short rate) base (comes_up clock ∷ events)).store ≡ s

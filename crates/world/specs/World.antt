@@ -109,11 +109,11 @@ module _ (m : Limits) (p : Times) where
 -- from a register on
 module _ (m : Limits) (p : Times) (b : Register) where
   -- the world after these events, the newest first
-  unfoldable pub after-all : List Event → World
-  after-all [] = began b
-  after-all (e ∷ es) = then m p e (after-all es)
+  unfoldable pub after_all : List Event → World
+  after_all [] = began b
+  after_all (e ∷ es) = then m p e (after_all es)
 
   -- each of these events may come after those before it
   pub data Possible : List Event → Type 0 where
     none_yet : Possible []
-    one_more : (e : Event) (es : List Event) → Possible es → Comes m p e (after-all es) → Possible (e ∷ es)
+    one_more : (e : Event) (es : List Event) → Possible es → Comes m p e (after_all es) → Possible (e ∷ es)

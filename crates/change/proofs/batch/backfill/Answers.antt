@@ -7,16 +7,16 @@ use Rattle.table.specs.Update.{update}
 use Rattle.stage.specs.declared.kinds.Stage.TheVariants.{WriteOnly}
 use Rattle.change.specs.declared.kinds.Way.{Way}
 use Rattle.change.specs.declared.kinds.Way.TheVariants.{Up}
-use Rattle.change.specs.Protocol.{Head, there, up, down, mayFill}
+use Rattle.change.specs.Protocol.{Head, there, up, down, may_fill}
 use Rattle.change.specs.Index.{About, refuses, must_turn, backfilled}
 use Rattle.change.specs.Heads.{head_of, head_by, about_of, work_on}
 use Rattle.change.specs.Batches.{Work, filled_n, filled}
-use Rattle.change.proofs.Batches.{first, next, leaves, over, fill-next, fill_turns}
+use Rattle.change.proofs.Batches.{first, next, leaves, over, fill_next, fill_turns}
 use Rattle.change.proofs.batch.backfill.Goals as goal
 use Rattle.change.proofs.batch.backfill.Goals.{else-loop-number-test, then-loop-number-test+in-default}
 
 abbrev may : Work → Bool
-may x = mayFill 4096 x.head
+may x = may_fill 4096 x.head
 
 abbrev at : About → Way → ℕ → (ℕ → Option ℕ) → Work
 at a w k es = record { head = head_by a k w; entries = es }
@@ -47,7 +47,7 @@ loop-number-preserved c =
     let m : may (at a h.way k es) ≡ true = rw c.requires.0 (lt-ltb k 4096 inside) in
     let s : filled 4096 rows (at a h.way k es) ≡ at a h.way (k + 1) fs =
     let t = must a h.done c.in-Some.key.number k h.way rows es false c.requires.0 key c.if-fill-key.ensures.taken in
-    rw c.requires.0 (fill-next 4096 rows a k es fs t (filled_at rows es fs c.in-Some.key.number k key c.if-fill-key.ensures.entries)) in
+    rw c.requires.0 (fill_next 4096 rows a k es fs t (filled_at rows es fs c.in-Some.key.number k key c.if-fill-key.ensures.entries)) in
     next may (filled 4096 rows) (work_on h (entry_of c.args.entries.now)) h.done k (at a h.way k es) (at a h.way (k + 1) fs) c.loop-number.auto.number m s c.loop-number.invariant
 
 pub returns-then-fill-key : goal.returns-then-fill-key

@@ -5,7 +5,7 @@ use Rattle.table.specs.Held.{entry_of, row_of}
 use Rattle.table.specs.Layout.{value_in}
 use Rattle.table.specs.Update.{update}
 use Rattle.change.specs.declared.kinds.Way.{Way}
-use Rattle.change.specs.Protocol.{Head, there, down, mayClear}
+use Rattle.change.specs.Protocol.{Head, there, down, may_clear}
 use Rattle.change.specs.Index.{About, cleaned_up}
 use Rattle.change.specs.Heads.{head_of, head_by, about_of, work_on}
 use Rattle.change.specs.Batches.{Work, cleared_n, cleared}
@@ -14,7 +14,7 @@ use Rattle.change.proofs.batch.cleanup.Goals as goal
 use Rattle.change.proofs.batch.cleanup.Goals.{else-loop-number-test, then-loop-number-test+in-default}
 
 abbrev may : Work → Bool
-may x = mayClear 4096 x.head
+may x = may_clear 4096 x.head
 
 abbrev at : About → Way → ℕ → (ℕ → Option ℕ) → Work
 at a w k es = record { head = head_by a k w; entries = es }

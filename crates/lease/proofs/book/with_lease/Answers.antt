@@ -4,13 +4,13 @@ use Rattle.lease.specs.declared.kinds.Lease.{Lease}
 use Rattle.lease.specs.Leases as rules
 use Rattle.lease.specs.Leases.{left_beside}
 use Rattle.lease.specs.Books.{lease_of, book_of}
-use Rattle.lease.proofs.Turns.{beside-left, beside_none, pushed, book_push}
+use Rattle.lease.proofs.Turns.{beside_left, beside_none, pushed, book_push}
 use Rattle.lease.proofs.book.with_lease.Goals as goal
 use Rattle.lease.proofs.book.with_lease.Goals.{then-stays-beside+in-ok-push-2, else-stays-beside}
 
 pub loop-lease-preserved : goal.loop-lease-preserved
 loop-lease-preserved c =
-    let e = beside-left c.args.long (lease_of c.args.new) c.args.leases.now c.loop-lease.lease-index c.loop-lease-test.true in
+    let e = beside_left c.args.long (lease_of c.args.new) c.args.leases.now c.loop-lease.lease-index c.loop-lease-test.true in
     elim c.if-stays-beside.branch [
       | then-stays-beside+in-ok-push-2 w ↦
           let p = w.in-ok-push-2.ensures.items in

@@ -3,7 +3,7 @@ use mathlib.Core.Path.{fun_ext}
 use Rattle.change.specs.Protocol.{done_of}
 use Rattle.change.specs.Heads.{head_of}
 use Rattle.register.proofs.Parts.{entry_at}
-use Rattle.register.proofs.Keys.{cleared-one, done_there}
+use Rattle.register.proofs.Keys.{cleared_one, done_there}
 use Rattle.register.proofs.work.clear_one.Goals as goal
 
 pub returns : goal.returns
@@ -13,4 +13,4 @@ returns c =
     let e = get_or os at c.index-entries-at.result in
     let f = c.clear.new.entries in
     let inside : at < length os = omega arith in
-    cleared-one os at e f c.args.head c.args.key.number inside (fun_ext (entry_at os at c.index-entries-at.result inside)) (sym (done_there c.args.head ∙ c.if-head-number.false ∙ c.number.ensures)) c.clear.result c.clear.ensures
+    cleared_one os at e f c.args.head c.args.key.number inside (fun_ext (entry_at os at c.index-entries-at.result inside)) (sym (done_there c.args.head ∙ c.if-head-number.false ∙ c.number.ensures)) c.clear.result c.clear.ensures

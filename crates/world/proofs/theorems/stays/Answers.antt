@@ -1,5 +1,5 @@
-use Rattle.world.proofs.Promises.{stays, stops-between}
+use Rattle.world.proofs.Promises.{stays, stops_between}
 use Rattle.world.proofs.theorems.stays.Goals as goal
 
 pub returns : goal.returns
-returns c = record { synced = stays; stopped = stops-between }
+returns c = record { synced = stays; stopped = stops_between }

@@ -7,10 +7,10 @@ use Rattle.std.specs.Vec.{with_items}
 use Rattle.table.specs.Layout.{value_in}
 use Rattle.table.specs.Update.{update}
 use Rattle.change.specs.Index.{backfilled, cleaned_up, must_turn}
-use Rattle.change.specs.Protocol.{done_of, whyNotFill}
+use Rattle.change.specs.Protocol.{done_of, why_not_fill}
 use Rattle.change.specs.OneChange.{is_none}
 use Rattle.register.specs.Held.{register_of, entry_in, head_in}
-use Rattle.register.proofs.Keys.{can-clear, did-clear, left_alone, refused_record}
+use Rattle.register.proofs.Keys.{can_clear, did_clear, left_alone, refused_record}
 use Rattle.register.proofs.owner.Register.clear.Goals as goal
 
 pub invariant-of-self : goal.invariant-of-self
@@ -33,7 +33,7 @@ returns-in-err-next c =
     let b : Lent s.entries c.as-mut-slice.result.now c.clear-one.new.entries = record { long = c.clear-one.auto.entries; value = c.as-mut-slice.ensures.value } in
     let (may, entries) = c.in-err-next.ensures in
     refused_record c.from-residual.result _ (register_of s) _ c.from-residual.ensures.0
-    (can-clear (register_of s) i k c.in-Some.head c.args.index.small is false (may))
+    (can_clear (register_of s) i k c.in-Some.head c.args.index.small is false (may))
     (left_alone (register_of s) (entry_in (with_items s.entries c.clear-one.new.entries).items) (λ n j. ap (λ es. entry_in es n j) (lent _ _ _ b) ∙ entries n j ∙ ap (λ es. entry_in es n j) b.value))
 
 pub returns : goal.returns
@@ -49,6 +49,6 @@ returns c =
     let is : head_in s.heads i ≡ head_of c.in-Some.head = ap (λ n. slot_of (get_or s.heads n None)) (sym c.number.ensures) ∙ ap slot_of slot in
     let b : Lent s.entries c.as-mut-slice.result.now c.clear-one.new.entries = record { long = c.clear-one.auto.entries; value = c.as-mut-slice.ensures.value } in
     let (may, onwards, entries) = c.in-ok-next.ensures in
-    let did = did-clear (register_of s) i k c.in-Some.head c.args.index.small is c.in-ok-next.next (entry_in (with_items s.entries c.clear-one.new.entries).items) onwards
+    let did = did_clear (register_of s) i k c.in-Some.head c.args.index.small is c.in-ok-next.next (entry_in (with_items s.entries c.clear-one.new.entries).items) onwards
     (λ m j. ap (λ es. entry_in es m j) (lent _ _ _ b) ∙ entries m j ∙ ap₂ (λ n es. update n (cleaned_up k (entry_in es n)) (entry_in es) m j) c.number-2.ensures b.value) in
-    (can-clear (register_of s) i k c.in-Some.head c.args.index.small is true (may), c.set-head.ensures ∙ did)
+    (can_clear (register_of s) i k c.in-Some.head c.args.index.small is true (may), c.set-head.ensures ∙ did)

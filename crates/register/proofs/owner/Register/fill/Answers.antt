@@ -7,10 +7,10 @@ use Rattle.std.specs.Vec.{with_items}
 use Rattle.table.specs.Layout.{value_in}
 use Rattle.table.specs.Update.{update}
 use Rattle.change.specs.Index.{backfilled, cleaned_up, must_turn}
-use Rattle.change.specs.Protocol.{done_of, whyNotFill}
+use Rattle.change.specs.Protocol.{done_of, why_not_fill}
 use Rattle.change.specs.OneChange.{is_none}
 use Rattle.register.specs.Held.{register_of, entry_in, head_in}
-use Rattle.register.proofs.Keys.{can-fill, did-fill, left_alone, refused_record}
+use Rattle.register.proofs.Keys.{can_fill, did_fill, left_alone, refused_record}
 use Rattle.register.proofs.owner.Register.fill.Goals as goal
 
 pub invariant-of-self : goal.invariant-of-self
@@ -33,11 +33,11 @@ returns-in-err-next c =
     let b : Lent s.entries c.as-mut-slice.result.now c.fill-one.new.entries = record { long = c.fill-one.auto.entries; value = c.as-mut-slice.ensures.value } in
     let h = head_of c.in-Some.head in
     let rows : ℕ → Option ℕ = λ k. value_in c.in-Some.head.column.number (row_of s.rows k) in
-    let may-by : is_none (whyNotFill 4096 true h) && eqb k (done_of h) && not (must_turn 4096 rows (entry_in (vec_items s.entries) i) h) ≡ is_none (whyNotFill 4096 true h) && eqb k (done_of h) && not (must_turn 4096 rows (entry_in c.as-mut-slice.result.now c.number-2.result) h)
-    = ap₂ (λ n es. is_none (whyNotFill 4096 true h) && eqb k (done_of h) && not (must_turn 4096 rows (entry_in es n) h)) (sym c.number-2.ensures) (sym b.value) in
+    let may-by : is_none (why_not_fill 4096 true h) && eqb k (done_of h) && not (must_turn 4096 rows (entry_in (vec_items s.entries) i) h) ≡ is_none (why_not_fill 4096 true h) && eqb k (done_of h) && not (must_turn 4096 rows (entry_in c.as-mut-slice.result.now c.number-2.result) h)
+    = ap₂ (λ n es. is_none (why_not_fill 4096 true h) && eqb k (done_of h) && not (must_turn 4096 rows (entry_in es n) h)) (sym c.number-2.ensures) (sym b.value) in
     let (may, entries) = c.in-err-next.ensures in
     refused_record c.from-residual.result _ (register_of s) _ c.from-residual.ensures.0
-    (can-fill (register_of s) i k c.in-Some.head c.args.index.small is false (may-by ∙ may))
+    (can_fill (register_of s) i k c.in-Some.head c.args.index.small is false (may-by ∙ may))
     (left_alone (register_of s) (entry_in (with_items s.entries c.fill-one.new.entries).items) (λ n j. ap (λ es. entry_in es n j) (lent _ _ _ b) ∙ entries n j ∙ ap (λ es. entry_in es n j) b.value))
 
 pub returns : goal.returns
@@ -54,9 +54,9 @@ returns c =
     let b : Lent s.entries c.as-mut-slice.result.now c.fill-one.new.entries = record { long = c.fill-one.auto.entries; value = c.as-mut-slice.ensures.value } in
     let h = head_of c.in-Some.head in
     let rows : ℕ → Option ℕ = λ k. value_in c.in-Some.head.column.number (row_of s.rows k) in
-    let may-by : is_none (whyNotFill 4096 true h) && eqb k (done_of h) && not (must_turn 4096 rows (entry_in (vec_items s.entries) i) h) ≡ is_none (whyNotFill 4096 true h) && eqb k (done_of h) && not (must_turn 4096 rows (entry_in c.as-mut-slice.result.now c.number-2.result) h)
-    = ap₂ (λ n es. is_none (whyNotFill 4096 true h) && eqb k (done_of h) && not (must_turn 4096 rows (entry_in es n) h)) (sym c.number-2.ensures) (sym b.value) in
+    let may-by : is_none (why_not_fill 4096 true h) && eqb k (done_of h) && not (must_turn 4096 rows (entry_in (vec_items s.entries) i) h) ≡ is_none (why_not_fill 4096 true h) && eqb k (done_of h) && not (must_turn 4096 rows (entry_in c.as-mut-slice.result.now c.number-2.result) h)
+    = ap₂ (λ n es. is_none (why_not_fill 4096 true h) && eqb k (done_of h) && not (must_turn 4096 rows (entry_in es n) h)) (sym c.number-2.ensures) (sym b.value) in
     let (may, onwards, entries) = c.in-ok-next.ensures in
-    let did = did-fill (register_of s) i k c.in-Some.head c.args.index.small is c.in-ok-next.next (entry_in (with_items s.entries c.fill-one.new.entries).items) onwards
+    let did = did_fill (register_of s) i k c.in-Some.head c.args.index.small is c.in-ok-next.next (entry_in (with_items s.entries c.fill-one.new.entries).items) onwards
     (λ m j. ap (λ es. entry_in es m j) (lent _ _ _ b) ∙ entries m j ∙ ap₂ (λ n es. update n (backfilled k rows (entry_in es n)) (entry_in es) m j) c.number-2.ensures b.value) in
-    (can-fill (register_of s) i k c.in-Some.head c.args.index.small is true (may-by ∙ may), c.set-head.ensures ∙ did)
+    (can_fill (register_of s) i k c.in-Some.head c.args.index.small is true (may-by ∙ may), c.set-head.ensures ∙ did)

@@ -1,6 +1,6 @@
 use Rattle.std.proofs.Common.{◌≡◌, ℕ, ◌≤◌, sym, refl, ap, ◌∙◌, subst, subst₂, arith, MatchResult}
 use Rattle.service.specs.Held.{store_of, Called}
-use Rattle.service.proofs.Runs.{goes_on, finds, has-promises}
+use Rattle.service.proofs.Runs.{goes_on, finds, has_promises}
 use Rattle.service.proofs.store.Store.call.Goals as goal
 
 pub invariant-of-self : goal.invariant-of-self
@@ -24,7 +24,7 @@ returns c =
       times = (refl, refl);
       called = subst₂ (λ l t. MatchResult c.call-pending.result (λ p. Called l (store_of s.state) (store_of c.call-pending.new.self) t c.args.call p.answer p.what) (λ _. store_of c.call-pending.new.self ≡ store_of s.state))
           s.same_long c.max-reading.ensures c.call-pending.ensures.called;
-      promises = has-promises s.times.long s.times.short s.times.rate s.times.fits (store_of c.call-pending.new.self) c.max-reading.result
+      promises = has_promises s.times.long s.times.short s.times.rate s.times.fits (store_of c.call-pending.new.self) c.max-reading.result
           (goes_on s.times.long s.times.short s.times.rate s.times.fits s.state c.call-pending.new.self s.same_long s.clock c.max-reading.result h c.args.call s.reached
           c.call-pending.result c.call-pending.ensures.called);
       looks = finds s.times.long s.times.short s.times.rate s.times.fits s.state c.call-pending.new.self s.same_long s.clock c.max-reading.result h c.args.call s.reached

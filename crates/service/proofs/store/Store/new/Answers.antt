@@ -5,7 +5,7 @@ use Rattle.lease.specs.Leases.{Lease}
 use Rattle.lease.specs.Books.{book_of}
 use Rattle.service.specs.Calls.{Store}
 use Rattle.service.specs.Reached.{Reached}
-use Rattle.service.proofs.Runs.{came_up_lem, first-up}
+use Rattle.service.proofs.Runs.{came_up_lem, first_up}
 use Rattle.service.proofs.store.Store.new.Goals as goal
 
 pub invariant-of-result : goal.invariant-of-result
@@ -14,4 +14,4 @@ invariant-of-result c =
     let up = came_up_lem c.apply.result (register_of c.in-ok-register.register) (register_of c.apply.new.self) c.in-ok-register.ensures c.apply.ensures in
     let none = ap book_of c.new-2.ensures in
     let with : Register → List Lease → Store = λ r ls. record { register = r; leases = ls } in
-    (c.long.ensures, (∣ subst (λ s. Reached t.long t.short t.rate s 0) (sym (ap₂ with up none)) (first-up t.long t.short t.rate) ∣₁, tt))
+    (c.long.ensures, (∣ subst (λ s. Reached t.long t.short t.rate s 0) (sym (ap₂ with up none)) (first_up t.long t.short t.rate) ∣₁, tt))
