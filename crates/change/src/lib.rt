@@ -1,5 +1,7 @@
 //! A change of an index, going up, turning, going down: its head goes into each step by value and is handed back.
 
+#![tactic(auto)]
+
 ghost use Rattle.std.specs.Prelude.{◌≡◌, ℕ, ◌+◌, ◌<◌, ◌≤◌, Bool, true, false, cond, Some, None};
 ghost use Rattle.stage.specs.Stages.{rank};
 ghost use Rattle.change.specs.Protocol.{there, up as upward, stage_of, raised, turned_down, lowered, why_not_up, why_not_turn, why_not_down};

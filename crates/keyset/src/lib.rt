@@ -3,6 +3,8 @@
 //! A set of all keys takes [`WORDS`] words. Every function takes words of any length: a key that has no
 //! place in them is not in the set, and cannot be put in.
 
+#![tactic(auto)]
+
 ghost use Rattle.std.specs.Prelude.{◌≡◌, ℕ, ◌+◌, ◌*◌, ◌/◌, ◌%◌, ◌^◌, ◌<◌, ◌≤◌, Bool, true, false, not, ◌&&◌, length, IfOk, if◌then◌else◌, nat_eq};
 ghost use Rattle.keyset.specs.Sets.{has, places, any_below, keys_below};
 

@@ -1,5 +1,7 @@
 //! Leases: who acts on which stages, and for how long.
 
+#![tactic(auto)]
+
 ghost use Rattle.std.specs.Prelude.{◌≡◌, ℕ, ◌+◌, ◌-◌, ◌<◌, ◌≤◌};
 ghost use Rattle.stage.specs.Stages.{ranks};
 ghost use Rattle.lease.specs.Leases.{runs, same_list, is_of, stands, stays};

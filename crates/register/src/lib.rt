@@ -1,5 +1,7 @@
 //! The register: rows, the entries of eight indexes and their heads together, and records done to them.
 
+#![tactic(auto)]
+
 mod follow;
 mod kinds;
 mod owner;

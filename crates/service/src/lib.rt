@@ -1,5 +1,7 @@
 //! The store: calls, answers, and what they leave.
 
+#![tactic(auto)]
+
 mod batch;
 mod call;
 mod decide;

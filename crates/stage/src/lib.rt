@@ -1,5 +1,7 @@
 //! What an office does to an index when it writes a row, by the stage of the index that the office knows.
 
+#![tactic(auto)]
+
 ghost use Rattle.std.specs.Prelude.{◌≡◌, ℕ, ◌<◌, ◌≤◌, Bool, true, false, cond, not, ◌&&◌, Some, None, MatchOption, ◌==◌, nat_le};
 ghost use Rattle.table.specs.Held.{entry_of};
 ghost use Rattle.table.specs.Layout.{value_in};

@@ -1,5 +1,7 @@
 //! The store: opens the register's file, reads lines from standard input, and answers each.
 
+#![tactic(auto)]
+
 use anyhow::anyhow;
 use std::env;
 use std::fs::File;

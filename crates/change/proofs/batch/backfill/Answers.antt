@@ -13,7 +13,7 @@ use Rattle.change.specs.Heads.{head_of, head_by, about_of, work_on}
 use Rattle.change.specs.Batches.{Work, filled_n, filled}
 use Rattle.change.proofs.Batches.{first, next, leaves, over, fill_next, fill_turns}
 use Rattle.change.proofs.batch.backfill.Goals as goal
-use Rattle.change.proofs.batch.backfill.Goals.{else-loop-number-test, then-loop-number-test+in-default}
+use Rattle.change.proofs.batch.backfill.Goals.{else-loop-number-test, then-loop-number-test+in_default}
 
 abbrev may : Work → Bool
 may x = may_fill 4096 x.head
@@ -41,30 +41,30 @@ loop-number-preserved c =
     let k = c.loop-number.number in
     let rows : ℕ → Option ℕ = λ k. value_in h.column.number (row_of c.args.rows.now k) in
     let es = entry_of c.loop-number.entries in
-    let fs = entry_of c.fill-key.new.entries in
+    let fs = entry_of c.fill_key.new.entries in
     let key = c.in-Some.ensures in
-    let inside : k < 4096 = omega (arith, c.loop-number-test.true, c.end-of-end.ensures) in
+    let inside : k < 4096 = omega (arith, c.loop-number-test.true, c.end_of-end.ensures) in
     let m : may (at a h.way k es) ≡ true = rw c.requires.0 (lt-ltb k 4096 inside) in
     let s : filled 4096 rows (at a h.way k es) ≡ at a h.way (k + 1) fs =
-    let t = must a h.done c.in-Some.key.number k h.way rows es false c.requires.0 key c.if-fill-key.ensures.taken in
-    rw c.requires.0 (fill_next 4096 rows a k es fs t (filled_at rows es fs c.in-Some.key.number k key c.if-fill-key.ensures.entries)) in
+    let t = must a h.done c.in-Some.key.number k h.way rows es false c.requires.0 key c.if-fill_key.ensures.taken in
+    rw c.requires.0 (fill_next 4096 rows a k es fs t (filled_at rows es fs c.in-Some.key.number k key c.if-fill_key.ensures.entries)) in
     next may (filled 4096 rows) (work_on h (entry_of c.args.entries.now)) h.done k (at a h.way k es) (at a h.way (k + 1) fs) c.loop-number.auto.number m s c.loop-number.invariant
 
-pub returns-then-fill-key : goal.returns-then-fill-key
-returns-then-fill-key c =
+pub returns-then-fill_key : goal.returns-then-fill_key
+returns-then-fill_key c =
     let h = c.args.head in
     let a = about_of h.column h.unique in
     let k = c.loop-number.number in
     let rows : ℕ → Option ℕ = λ k. value_in h.column.number (row_of c.args.rows.now k) in
     let es = entry_of c.loop-number.entries in
-    let fs = entry_of c.fill-key.new.entries in
-    let inside : k < 4096 = omega (arith, c.loop-number-test.true, c.end-of-end.ensures) in
+    let fs = entry_of c.fill_key.new.entries in
+    let inside : k < 4096 = omega (arith, c.loop-number-test.true, c.end_of-end.ensures) in
     let m : may (at a h.way k es) ≡ true = rw c.requires.0 (lt-ltb k 4096 inside) in
     let z : Work = record { head = there a down 2 0; entries = fs } in
     let s : filled 4096 rows (at a h.way k es) ≡ z =
-    let t = must a h.done c.in-Some.key.number k h.way rows es true c.requires.0 c.in-Some.ensures c.if-fill-key.ensures.taken in
-    rw c.requires.0 (fill_turns 4096 rows a k es fs t c.if-fill-key.ensures.entries) in
-    sym (leaves may (filled 4096 rows) (work_on h (entry_of c.args.entries.now)) h.done k c.args.count (at a h.way k es) z c.loop-number.auto.number (omega (arith, c.loop-number-test.true, c.end-of-end.ensures)) m s refl c.loop-number.invariant)
+    let t = must a h.done c.in-Some.key.number k h.way rows es true c.requires.0 c.in-Some.ensures c.if-fill_key.ensures.taken in
+    rw c.requires.0 (fill_turns 4096 rows a k es fs t c.if-fill_key.ensures.entries) in
+    sym (leaves may (filled 4096 rows) (work_on h (entry_of c.args.entries.now)) h.done k c.args.count (at a h.way k es) z c.loop-number.auto.number (omega (arith, c.loop-number-test.true, c.end_of-end.ensures)) m s refl c.loop-number.invariant)
 
 pub returns : goal.returns
 returns c =
@@ -73,11 +73,11 @@ returns c =
     let k = c.loop-number.number in
     let es = entry_of c.loop-number.entries in
     let rows : ℕ → Option ℕ = λ k. value_in h.column.number (row_of c.args.rows.now k) in
-    let end = c.end-of-end.result in
+    let end = c.end_of-end.result in
     let e : k ≡ end =
     elim c.loop-number-test.branch [
-      | else-loop-number-test w ↦ omega (arith, w.loop-number-test.false, c.end-of-end.ensures, c.loop-number.auto.number-end)
-      | then-loop-number-test+in-default w ↦ absurd (omega (arith, w.in-default.ensures, w.loop-number-test.true, c.end-of-end.ensures))
+      | else-loop-number-test w ↦ omega (arith, w.loop-number-test.false, c.end_of-end.ensures, c.loop-number.auto.number-end)
+      | then-loop-number-test+in_default w ↦ absurd (omega (arith, w.in_default.ensures, w.loop-number-test.true, c.end_of-end.ensures))
     ] in
     let f : k ≡ 4096 → may (at a h.way k es) ≡ false = λ q. rw c.requires.0 (le-ltb k 4096 (omega arith)) in
-    ap (λ n. at a h.way n es) (sym e) ∙ sym (over may (filled 4096 rows) (work_on h (entry_of c.args.entries.now)) h.done 4096 c.args.count k (at a h.way k es) (omega arith) (e ∙ c.end-of-end.ensures) f c.loop-number.invariant)
+    ap (λ n. at a h.way n es) (sym e) ∙ sym (over may (filled 4096 rows) (work_on h (entry_of c.args.entries.now)) h.done 4096 c.args.count k (at a h.way k es) (omega arith) (e ∙ c.end_of-end.ensures) f c.loop-number.invariant)

@@ -11,7 +11,7 @@ use Rattle.change.specs.Heads.{head_of, head_by, about_of, work_on}
 use Rattle.change.specs.Batches.{Work, cleared_n, cleared}
 use Rattle.change.proofs.Batches.{first, next, over, clear_next}
 use Rattle.change.proofs.batch.cleanup.Goals as goal
-use Rattle.change.proofs.batch.cleanup.Goals.{else-loop-number-test, then-loop-number-test+in-default}
+use Rattle.change.proofs.batch.cleanup.Goals.{else-loop-number-test, then-loop-number-test+in_default}
 
 abbrev may : Work → Bool
 may x = may_clear 4096 x.head
@@ -29,7 +29,7 @@ loop-number-preserved c =
     let k = c.loop-number.number in
     let es = entry_of c.loop-number.entries in
     let fs = entry_of c.take.new.self in
-    let inside : k < 4096 = omega (arith, c.loop-number-test.true, c.end-of-end.ensures) in
+    let inside : k < 4096 = omega (arith, c.loop-number-test.true, c.end_of-end.ensures) in
     let m : may (at a h.way k es) ≡ true = rw c.requires.0 (lt-ltb k 4096 inside) in
     let s : cleared (at a h.way k es) ≡ at a h.way (k + 1) fs =
     rw c.requires.0 (clear_next a k es fs (λ j. c.take.ensures j ∙ ap (λ n. cleaned_up n es j) c.in-Some.ensures)) in
@@ -41,11 +41,11 @@ returns c =
     let a = about_of h.column h.unique in
     let k = c.loop-number.number in
     let es = entry_of c.loop-number.entries in
-    let end = c.end-of-end.result in
+    let end = c.end_of-end.result in
     let e : k ≡ end =
     elim c.loop-number-test.branch [
-      | else-loop-number-test w ↦ omega (arith, w.loop-number-test.false, c.end-of-end.ensures, c.loop-number.auto.number-end)
-      | then-loop-number-test+in-default w ↦ absurd (omega (arith, w.in-default.ensures, w.loop-number-test.true, c.end-of-end.ensures))
+      | else-loop-number-test w ↦ omega (arith, w.loop-number-test.false, c.end_of-end.ensures, c.loop-number.auto.number-end)
+      | then-loop-number-test+in_default w ↦ absurd (omega (arith, w.in_default.ensures, w.loop-number-test.true, c.end_of-end.ensures))
     ] in
     let f : k ≡ 4096 → may (at a h.way k es) ≡ false = λ q. rw c.requires.0 (le-ltb k 4096 (omega arith)) in
-    ap (λ n. at a h.way n es) (sym e) ∙ sym (over may cleared (work_on h (entry_of c.args.entries.now)) h.done 4096 c.args.count k (at a h.way k es) (omega arith) (e ∙ c.end-of-end.ensures) f c.loop-number.invariant)
+    ap (λ n. at a h.way n es) (sym e) ∙ sym (over may cleared (work_on h (entry_of c.args.entries.now)) h.done 4096 c.args.count k (at a h.way k es) (omega arith) (e ∙ c.end_of-end.ensures) f c.loop-number.invariant)

@@ -3,15 +3,15 @@ use Rattle.stage.specs.Stages.{rank, ranks}
 use Rattle.lease.proofs.Turns.{all_left, all_none}
 use Rattle.lease.proofs.book.all_at.Goals as goal
 
-pub returns-then-not-is-at : goal.returns-then-not-is-at
-returns-then-not-is-at c =
-    let t = c.if-not-is-at.ensures in
+pub returns-then-not-is_at : goal.returns-then-not-is_at
+returns-then-not-is_at c =
+    let t = c.if-not-is_at.ensures in
     let e = all_left c.args.long c.args.reading c.args.leases.now c.loop-lease.lease-index c.args.index (rank c.args.stage) c.loop-lease-test.true in
     let i = c.loop-lease.invariant in grind arith
 
 pub loop-lease-preserved : goal.loop-lease-preserved
 loop-lease-preserved c =
-    let t = c.if-not-is-at.ensures in
+    let t = c.if-not-is_at.ensures in
     let e = all_left c.args.long c.args.reading c.args.leases.now c.loop-lease.lease-index c.args.index (rank c.args.stage) c.loop-lease-test.true in
     let i = c.loop-lease.invariant in grind arith
 

@@ -20,7 +20,7 @@ loop-i-preserved c =
     let n = c.loop-i.i in
     let k = c.args.key.number in
     let x = get_or c.loop-i.entries n c.index-entries-i.result in
-    let y = c.follow-one.new.entries in
+    let y = c.follow_one.new.entries in
     let es = c.loop-i.entries in
     let os = c.args.entries.now in
     let G : Head About → ℕ → Option ℕ → Option ℕ = λ h s. entry_after s (cell_of h c.args.old) (cell_of h (written c.args.write)) in
@@ -29,7 +29,7 @@ loop-i-preserved c =
     let inside : n < length es = omega arith in
     let old : (j : ℕ) → entry_of x j ≡ entry_in os n j = λ j. sym (entry_at es n c.index-entries-i.result inside j) ∙ c.loop-i.invariant.1 n j (omega arith) in
     let new : (j : ℕ) → entry_of y j ≡ A n j = λ j.
-    c.follow-one.ensures j
+    c.follow_one.ensures j
     ∙ ap (λ h. update k (G (slot_of h) (rank (get_or c.args.stages.now n Absent)) (entry_of x k)) (entry_of x) j) (get_or_default c.args.heads.now n c.index-heads-i.result None (omega arith))
     ∙ changed k (F (rank (get_or c.args.stages.now n Absent)) n) (entry_of x) (entry_in os n) old j
     ∙ ap (λ s. update k (F s n (entry_in os n k)) (entry_in os n) j) (sym (rank_at c.args.stages.now n)) in

@@ -8,9 +8,9 @@ loop-i-init c = (ap length c.new-all.ensures.items, λ i j. ap (λ es. entry_in 
 
 pub loop-i-preserved : goal.loop-i-preserved
 loop-i-preserved c =
-    let p = c.in-ok-push.ensures.items in (
+    let p = c.in_ok-push.ensures.items in (
       ap length p ∙ length-append _ _ ∙ ap (λ n. n + 1) c.loop-i.invariant.0,
-      λ i j. ap (λ es. entry_in es i j) p ∙ none_more _ _ c.loop-i.invariant.1 c.in-ok-new.ensures i j,
+      λ i j. ap (λ es. entry_in es i j) p ∙ none_more _ _ c.loop-i.invariant.1 c.in_ok-new.ensures i j,
     )
 
 pub returns : goal.returns

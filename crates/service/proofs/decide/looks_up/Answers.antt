@@ -7,4 +7,4 @@ use Rattle.service.proofs.decide.looks_up.Goals as goal
 pub returns : goal.returns
 returns c =
     let ss = c.args.stages.now in
-    c.looks-up.ensures ∙ ap (λ n. eqb (rank (get_or ss n Absent)) 3) c.number.ensures ∙ ap (λ n. eqb n 3) (sym (rank_at ss c.args.index.number))
+    c.looks_up.ensures ∙ ap (λ n. eqb (rank (get_or ss n Absent)) 3) c.number.ensures ∙ ap (λ n. eqb n 3) (sym (rank_at ss c.args.index.number))

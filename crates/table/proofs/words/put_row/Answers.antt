@@ -10,9 +10,9 @@ returns c j =
     let k = c.args.key.number in
     let n = c.number.result in
     let m : n * 8 + 8 - n * 8 ≡ 8 = omega arith in
-    let ly : length c.copy-from-slice.new.self ≡ n * 8 + 8 - n * 8 = search rules in
+    let ly : length c.copy_from_slice.new.self ≡ n * 8 + 8 - n * 8 = search rules in
     let old = row_at c.args.words.now c.args.keys.now in
-    ap (λ (x : ℕ). row_at (put_mid (x * 8) (n * 8 + 8 - n * 8) c.args.words.now c.copy-from-slice.new.self) c.insert.new.words j) c.number.ensures
-    ∙ row_put c.args.words.now c.copy-from-slice.new.self c.args.keys.now c.insert.new.words k (n * 8 + 8 - n * 8)
+    ap (λ (x : ℕ). row_at (put_mid (x * 8) (n * 8 + 8 - n * 8) c.args.words.now c.copy_from_slice.new.self) c.insert.new.words j) c.number.ensures
+    ∙ row_put c.args.words.now c.copy_from_slice.new.self c.args.keys.now c.insert.new.words k (n * 8 + 8 - n * 8)
     c.requires.0 c.args.key.small m ly (put_in c.args.keys.now c.insert.new.words k c.requires.1 c.args.key.small c.insert.ensures) j
-    ∙ ap (λ (x : List ℕ). update k (Some (record { columns = x })) old j) c.copy-from-slice.ensures.after
+    ∙ ap (λ (x : List ℕ). update k (Some (record { columns = x })) old j) c.copy_from_slice.ensures.after

@@ -13,4 +13,4 @@ returns c =
     let n = c.number.result in
     let m : n * 8 + 8 - n * 8 ≡ 8 = omega arith in
     let e = c.number.ensures in
-    rw (← t, c.copy-from-slice.ensures.after, m, e)
+    rw (← t, c.copy_from_slice.ensures.after, m, e)

@@ -5,14 +5,14 @@ use Rattle.table.specs.Layout.{entry_at}
 use Rattle.table.specs.Update.{by_other, is_for}
 use Rattle.table.proofs.words.taken_by_other.Goals as goal
 
-pub returns-then-is-for : goal.returns-then-is-for
-returns-then-is-for c =
+pub returns-then-is_for : goal.returns-then-is_for
+returns-then-is_for c =
     let f = entry_at c.args.words.now c.args.keys.now in
     let j = c.loop-j.j in
     let k = c.number-own.result in
     rw (← c.number-own.ensures) (sym (any_some (by_other f c.args.value k) 4096 j c.loop-j-test.true
     (and_from (not (eqb j k)) (is_for (f j) c.args.value)
-    (not_from_false (eqb j k) (ne_eqb j k c.if-j-own.true)) (sym c.if-is-for.ensures))))
+    (not_from_false (eqb j k) (ne_eqb j k c.if-j-own.true)) (sym c.if-is_for.ensures))))
 
 pub returns : goal.returns
 returns c =

@@ -13,4 +13,4 @@ returns c =
     let k = c.args.key.number in
     let inside : c.number.result < length (vec_items s.entries) = omega (arith, c.number.ensures, c.args.index.small, s.entries_long) in
     let is = entries_read (vec_items s.entries) c.number.result c.args.index.number c.index.result.now c.number.ensures inside c.index.ensures in
-    c.is-taken.ensures ∙ ap (λ f. refuses 4096 (head_of h) 2 k (value_in h.column.number (row_of s.rows k)) f) (sym is)
+    c.is_taken.ensures ∙ ap (λ f. refuses 4096 (head_of h) 2 k (value_in h.column.number (row_of s.rows k)) f) (sym is)

@@ -11,5 +11,5 @@ returns c =
     let e = c.index.result.now in
     let inside : c.number.result < length (vec_items s.entries) = omega (arith, c.number.ensures, c.args.index.small, s.entries_long) in
     let is = entries_read (vec_items s.entries) c.number.result c.args.index.number e c.number.ensures inside c.index.ensures in
-    IfOk-weaker c.keys-for.result (λ v. vec_items v ≡ keys_for 4096 (entry_of e) c.args.value) _
-    (λ v q. q ∙ ap (λ f. keys_for 4096 f c.args.value) (sym is)) c.keys-for.ensures
+    IfOk-weaker c.keys_for.result (λ v. vec_items v ≡ keys_for 4096 (entry_of e) c.args.value) _
+    (λ v q. q ∙ ap (λ f. keys_for 4096 f c.args.value) (sym is)) c.keys_for.ensures

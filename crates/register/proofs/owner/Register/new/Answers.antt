@@ -3,4 +3,4 @@ use Rattle.register.proofs.Parts.{all_bare}
 use Rattle.register.proofs.owner.Register.new.Goals as goal
 
 pub returns : goal.returns
-returns c = all_bare c.in-ok-rows.rows (vec_items c.in-ok-entries.entries) c.in-ok-rows.ensures c.in-ok-entries.ensures.1
+returns c = all_bare c.in_ok-rows.rows (vec_items c.in_ok-entries.entries) c.in_ok-rows.ensures c.in_ok-entries.ensures.1

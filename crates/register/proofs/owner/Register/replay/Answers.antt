@@ -4,9 +4,9 @@ use Rattle.register.specs.Held.{register_of, record_of, can_do_all}
 use Rattle.register.proofs.Parts.{can_left, replay_left, can_none, replay_none}
 use Rattle.register.proofs.owner.Register.replay.Goals as goal
 
-pub returns-in-default : goal.returns-in-default
-returns-in-default c =
-    let (cannot, same) = c.in-default.ensures in
+pub returns-in_default : goal.returns-in_default
+returns-in_default c =
+    let (cannot, same) = c.in_default.ensures in
     let left = can_left c.args.records.now c.loop-what.what-index c.what-item.result (register_of c.loop-what.self) c.loop-what-test.true c.what-item.is in
     let rest = can_do_all (map record_of (drop (c.loop-what.what-index + 1) c.args.records.now)) (applied (record_of c.what-item.result) (register_of c.loop-what.self)) in
     (c.loop-what.invariant.0 ∙ left ∙ ap (λ b. b && rest) cannot, refl)

@@ -10,15 +10,15 @@ use Rattle.service.proofs.owner.State.grant.Goals as goal
 pub returns : goal.returns
 returns c =
     let s = c.args.self.now in
-    let (answers, writes) = c.in-ok-answer.ensures in
+    let (answers, writes) = c.in_ok-answer.ensures in
     record {
-      long = c.carry-out.ensures.long ∙ c.lend.ensures.long;
+      long = c.carry_out.ensures.long ∙ c.lend.ensures.long;
       called = record {
         answers = answers ∙ sym (ap (λ w. answer_by w (granted (limits s.long) (store_of s) c.args.reading (call_of c.args.call))) c.requires);
         writes = writes ∙ sym (ap (λ w. record_by w (record_of (limits s.long) (store_of s) c.args.reading (call_of c.args.call))) c.requires);
         leaves = did s.long (store_of s) c.args.reading (call_of c.args.call) (heads_beyond s.register.heads s.register.heads_long) c.requires
-            (record_in c.in-ok-answer.what) (register_of c.carry-out.new.self.register) _ writes
-            (subst (λ g. Carried (record_in c.in-ok-answer.what) (register_of g) (register_of c.carry-out.new.self.register)) c.lend.ensures.register c.carry-out.ensures.register)
-            (ap (λ (b : Book). book_of (vec_items b.leases)) c.carry-out.ensures.book ∙ c.in-ok-lend.ensures.book);
+            (record_in c.in_ok-answer.what) (register_of c.carry_out.new.self.register) _ writes
+            (subst (λ g. Carried (record_in c.in_ok-answer.what) (register_of g) (register_of c.carry_out.new.self.register)) c.lend.ensures.register c.carry_out.ensures.register)
+            (ap (λ (b : Book). book_of (vec_items b.leases)) c.carry_out.ensures.book ∙ c.in_ok-lend.ensures.book);
       };
     }

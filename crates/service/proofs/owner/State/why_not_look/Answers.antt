@@ -3,25 +3,25 @@ use Rattle.std.proofs.lemmas.Bool.Decides.{nat_tests}
 use Rattle.service.proofs.Claims.{is_claim}
 use Rattle.service.proofs.owner.State.why_not_look.Goals as goal
 
-pub returns-then-no-lease : goal.returns-then-no-lease
-returns-then-no-lease c =
+pub returns-then-no_lease : goal.returns-then-no_lease
+returns-then-no_lease c =
     let a = is_claim c.args.self.now.long c.args.claim.now in
     let s = c.args.index.small in
-    let f0 = c.if-no-lease.ensures in
+    let f0 = c.if-no_lease.ensures in
     grind (arith, nat_tests)
 
-pub returns-then-not-looks-up : goal.returns-then-not-looks-up
-returns-then-not-looks-up c =
+pub returns-then-not-looks_up : goal.returns-then-not-looks_up
+returns-then-not-looks_up c =
     let a = is_claim c.args.self.now.long c.args.claim.now in
     let s = c.args.index.small in
-    let f0 = c.if-no-lease.ensures in
-    let f1 = c.if-not-looks-up.ensures in
+    let f0 = c.if-no_lease.ensures in
+    let f1 = c.if-not-looks_up.ensures in
     grind (arith, nat_tests)
 
 pub returns : goal.returns
 returns c =
     let a = is_claim c.args.self.now.long c.args.claim.now in
     let s = c.args.index.small in
-    let f0 = c.if-no-lease.ensures in
-    let f1 = c.if-not-looks-up.ensures in
+    let f0 = c.if-no_lease.ensures in
+    let f1 = c.if-not-looks_up.ensures in
     grind (arith, nat_tests)

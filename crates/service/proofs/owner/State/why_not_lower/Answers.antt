@@ -8,6 +8,6 @@ use Rattle.service.proofs.owner.State.why_not_lower.Goals as goal
 pub returns : goal.returns
 returns c =
     let s = c.args.self.now in
-    c.unless-quiet.ensures
-    ∙ ap (unless_quiet (limits s.long) (store_of s) c.args.reading) (c.down-refusal-why.ensures ∙ ap₂ (why_not_down 4096) c.alone.ensures c.head.ensures)
+    c.unless_quiet.ensures
+    ∙ ap (unless_quiet (limits s.long) (store_of s) c.args.reading) (c.down_refusal-why.ensures ∙ ap₂ (why_not_down 4096) c.alone.ensures c.head.ensures)
     ∙ in_range c.args.index.number _ c.args.index.small

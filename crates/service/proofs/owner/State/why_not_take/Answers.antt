@@ -3,17 +3,17 @@ use Rattle.std.proofs.lemmas.Bool.Decides.{nat_tests}
 use Rattle.service.proofs.Claims.{is_claim}
 use Rattle.service.proofs.owner.State.why_not_take.Goals as goal
 
-pub returns-then-no-lease : goal.returns-then-no-lease
-returns-then-no-lease c =
+pub returns-then-no_lease : goal.returns-then-no_lease
+returns-then-no_lease c =
     let a = is_claim c.args.self.now.long c.args.claim.now in
     let s = c.args.key.small in
-    let f0 = c.if-no-lease.ensures in
+    let f0 = c.if-no_lease.ensures in
     grind (arith, nat_tests)
 
 pub returns : goal.returns
 returns c =
     let a = is_claim c.args.self.now.long c.args.claim.now in
     let s = c.args.key.small in
-    let f0 = c.if-no-lease.ensures in
-    let f1 = c.why-no-row.ensures in
+    let f0 = c.if-no_lease.ensures in
+    let f1 = c.why_no_row.ensures in
     grind (arith, nat_tests)

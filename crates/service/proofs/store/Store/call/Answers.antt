@@ -3,8 +3,8 @@ use Rattle.service.specs.Held.{store_of, Called}
 use Rattle.service.proofs.Runs.{goes_on, finds, has_promises}
 use Rattle.service.proofs.store.Store.call.Goals as goal
 
-pub invariant-of-self : goal.invariant-of-self
-invariant-of-self c =
+pub invariant_of-self : goal.invariant_of-self
+invariant_of-self c =
     let s = c.args.self.now in
     let h : s.clock ≤ c.max-reading.result = omega (arith, c.max-reading.ensures) in (
       c.call-pending.ensures.long ∙ s.same_long,

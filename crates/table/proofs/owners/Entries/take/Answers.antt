@@ -4,15 +4,15 @@ use Rattle.table.proofs.Laid.{entry_taken}
 use Rattle.table.proofs.Lent.{Lent, lent_length, keys_lent}
 use Rattle.table.proofs.owners.Entries.take.Goals as goal
 
-pub invariant-of-self : goal.invariant-of-self
-invariant-of-self c =
+pub invariant_of-self : goal.invariant_of-self
+invariant_of-self c =
     let s = c.args.self.now in
-    let b : Lent s.keys c.as-mut-slice.result.now c.remove.new.words = record { long = c.remove.auto.words; value = c.as-mut-slice.ensures.value } in
-    (s.words_long, (lent_length _ _ _ b ∙ s.keys_long, tt))
+    let b : Lent s.keys c.as_mut_slice.result.now c.remove.new.words = record { long = c.remove.auto.words; value = c.as_mut_slice.ensures.value } in
+    record { words_long = s.words_long; keys_long = lent_length _ _ _ b ∙ s.keys_long }
 
 pub returns : goal.returns
 returns c =
     let s = c.args.self.now in
-    let b : Lent s.keys c.as-mut-slice.result.now c.remove.new.words = record { long = c.remove.auto.words; value = c.as-mut-slice.ensures.value } in
+    let b : Lent s.keys c.as_mut_slice.result.now c.remove.new.words = record { long = c.remove.auto.words; value = c.as_mut_slice.ensures.value } in
     keys_lent entry_at c.args.key.number None s.words s.keys _ _ b
-    (entry_taken (vec_items s.words) c.as-mut-slice.result.now c.remove.new.words c.args.key.number c.remove.ensures)
+    (entry_taken (vec_items s.words) c.as_mut_slice.result.now c.remove.new.words c.args.key.number c.remove.ensures)

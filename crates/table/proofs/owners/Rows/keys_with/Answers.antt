@@ -8,6 +8,6 @@ pub returns : goal.returns
 returns c =
     let v = c.args.value in
     let n = c.args.column.number in
-    IfOk-weaker c.keys-with.result (λ r. vec_items r ≡ keys_for 4096 (λ k. value_in n (row_at c.as-slice.result.now c.as-slice-2.result.now k)) v) _
-    (λ r e. e ∙ ap₂ (λ x y. keys_for 4096 (λ k. value_in n (row_at x y k)) v) c.as-slice.ensures.value c.as-slice-2.ensures.value)
-    c.keys-with.ensures
+    IfOk-weaker c.keys_with.result (λ r. vec_items r ≡ keys_for 4096 (λ k. value_in n (row_at c.as_slice.result.now c.as_slice-2.result.now k)) v) _
+    (λ r e. e ∙ ap₂ (λ x y. keys_for 4096 (λ k. value_in n (row_at x y k)) v) c.as_slice.ensures.value c.as_slice-2.ensures.value)
+    c.keys_with.ensures
