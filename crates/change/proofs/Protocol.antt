@@ -80,7 +80,7 @@ module _ {keys : ℕ} {A X : Type 0} (K : Kind keys A X) where
           let n = g.near s i in
           let b = K.written_base a up t d s x y f g.always (λ z. g.by_head.4.0 (omega arith)) g.by_head.2 in
           let none = K.written_none (there a up t d) s x y f in
-          let all = K.written_All a up t d s x y f in
+          let all = K.written_all a up t d s x y f in
           let first : d ≡ 0 → K.AllTo a d y = λ z. subst⁻¹ (λ n. K.AllTo a n y) z (K.all_to_0 a y) in
           let always = K.written_always (there a up t d) s x y f g.always in
           grind arith
@@ -88,7 +88,7 @@ module _ {keys : ℕ} {A X : Type 0} (K : Kind keys A X) where
           let n = g.near s i in
           let b = K.written_base a down t d s x y f g.always (λ z. g.by_head.4.0 (omega arith)) g.by_head.2 in
           let none = K.written_none (there a down t d) s x y f in
-          let all = K.written_All a down t d s x y f in
+          let all = K.written_all a down t d s x y f in
           let first : d ≡ 0 → K.NoneTo d y = λ z. subst⁻¹ (λ n. K.NoneTo n y) z (K.none_to_0 y) in
           let always = K.written_always (there a down t d) s x y f g.always in
           grind arith

@@ -136,8 +136,8 @@ stops_cut_bytes long short rate base fits whole es possible all n =
     let w = after_all (limits long) (times_of short rate) base es in
     let (j, q) = proper (limits long) (times_of short rate) base es all in
     let promise = (promises.keeps (limits long) (times_of short rate) (λ o t. t - 0) (record { some_grain = omega arith; within = fits }) (λ o. exact short rate 0) base whole es possible).0 in
-    let written_All = writable (written w) w.base promise.replays (both w.journal w.pending j q) in
-    let (k, part, m, cut, is-part, next) = cut_anywhere w.pending n (writable_behind w.journal w.pending written_All) in (
+    let written_all = writable (written w) w.base promise.replays (both w.journal w.pending j q) in
+    let (k, part, m, cut, is-part, next) = cut_anywhere w.pending n (writable_behind w.journal w.pending written_all) in (
       k,
       part,
       ap (λ bs. all_bytes w.journal ++ bs) cut ∙ sym (append_assoc (all_bytes w.journal) (all_bytes (take k w.pending)) part) ∙ ap (λ bs. bs ++ part) (sym (all_append w.journal (take k w.pending))),

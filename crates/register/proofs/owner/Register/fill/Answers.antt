@@ -17,7 +17,7 @@ pub invariant_of-self : goal.invariant_of-self
 invariant_of-self c =
     let s = c.args.self.now in
     let b : Lent s.entries c.as_mut_slice.result.now c.fill_one.new.entries = record { long = c.fill_one.auto.entries; value = c.as_mut_slice.ensures.value } in
-    (lent_length _ _ _ b ∙ s.entries_long, (s.heads_long, tt))
+    record { entries_long = lent_length _ _ _ b ∙ s.entries_long; heads_long = s.heads_long }
 
 pub returns-in_err-next : goal.returns-in_err-next
 returns-in_err-next c =

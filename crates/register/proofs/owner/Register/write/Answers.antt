@@ -13,13 +13,13 @@ pub invariant_of-self : goal.invariant_of-self
 invariant_of-self c =
     let s = c.args.self.now in
     let b : Lent s.entries c.as_mut_slice.result.now c.follow_all.new.entries = record { long = c.follow_all.auto.entries; value = c.as_mut_slice.ensures.value } in
-    (lent_length _ _ _ b ∙ s.entries_long, (s.heads_long, tt))
+    record { entries_long = lent_length _ _ _ b ∙ s.entries_long; heads_long = s.heads_long }
 
 pub invariant_of-self-in-Take : goal.invariant_of-self-in-Take
 invariant_of-self-in-Take c =
     let s = c.args.self.now in
     let b : Lent s.entries c.as_mut_slice.result.now c.follow_all.new.entries = record { long = c.follow_all.auto.entries; value = c.as_mut_slice.ensures.value } in
-    (lent_length _ _ _ b ∙ s.entries_long, (s.heads_long, tt))
+    record { entries_long = lent_length _ _ _ b ∙ s.entries_long; heads_long = s.heads_long }
 
 pub returns-in-Put : goal.returns-in-Put
 returns-in-Put c =

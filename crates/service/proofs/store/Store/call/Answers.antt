@@ -6,14 +6,11 @@ use Rattle.service.proofs.store.Store.call.Goals as goal
 pub invariant_of-self : goal.invariant_of-self
 invariant_of-self c =
     let s = c.args.self.now in
-    let h : s.clock ≤ c.max-reading.result = omega (arith, c.max-reading.ensures) in (
-      c.call-pending.ensures.long ∙ s.same_long,
-      (
-        goes_on s.times.long s.times.short s.times.rate s.times.fits s.state c.call-pending.new.self s.same_long s.clock c.max-reading.result h c.args.call s.reached
-            c.call-pending.result c.call-pending.ensures.called,
-        tt,
-      ),
-    )
+    let h : s.clock ≤ c.max-reading.result = omega (arith, c.max-reading.ensures) in record {
+      same_long = c.call-pending.ensures.long ∙ s.same_long;
+      reached = goes_on s.times.long s.times.short s.times.rate s.times.fits s.state c.call-pending.new.self s.same_long s.clock c.max-reading.result h c.args.call s.reached
+          c.call-pending.result c.call-pending.ensures.called;
+    }
 
 pub returns : goal.returns
 returns c =

@@ -14,4 +14,4 @@ invariant_of-result c =
     let up = came_up_lem c.apply.result (register_of c.in_ok-register.register) (register_of c.apply.new.self) c.in_ok-register.ensures c.apply.ensures in
     let none = ap book_of c.new-2.ensures in
     let with : Register → List Lease → Store = λ r ls. record { register = r; leases = ls } in
-    (c.long.ensures, (∣ subst (λ s. Reached t.long t.short t.rate s 0) (sym (ap₂ with up none)) (first_up t.long t.short t.rate) ∣₁, tt))
+    record { same_long = c.long.ensures; reached = ∣ subst (λ s. Reached t.long t.short t.rate s 0) (sym (ap₂ with up none)) (first_up t.long t.short t.rate) ∣₁ }
