@@ -1,5 +1,5 @@
 -- An index as a kind of change: the rows that it is over, its entries, and what is done to them.
-use Rattle.std.specs.Prelude.{◌≡◌, ℕ, ◌<◌, ◌≤◌, Bool, true, false, cond, ◌&&◌, Some, None, Option}
+use Rattle.std.specs.Prelude.{◌≡◌, ℕ, ◌<◌, ◌≤◌, Bool, true, false, cond, Some, None, Option}
 use Rattle.table.specs.Update.{update}
 use Rattle.stage.specs.Stages.{put_in, entry_after, refused_by}
 use Rattle.change.specs.Protocol.{Head, gone, there, done_of, turned_down, onward}

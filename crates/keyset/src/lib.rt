@@ -127,7 +127,10 @@ mod tests {
         put(&mut words, 32);
         assert!(rt; words[0] == 0x8000_0001 && words[1] == 1 && words[127] == 0x8000_0000);
         assert!(rt; has(&words, 31) && !has(&words, 30) && !has(&words, 33));
-        assert_eq!(rt; listed(rt.alloc(), &words)?.as_slice(), &[0, 31, 32, 4095]);
+        assert_eq!(rt;
+            listed(rt.alloc(), &words)?.as_slice(),
+            [0, 31, 32, 4095].as_slice()
+        );
         take(&mut words, 31);
         take(&mut words, 30);
         assert_eq!(rt; count(&words), 3);

@@ -12,7 +12,7 @@ use Rattle.change.specs.declared.kinds.Way.TheVariants.{Up, Down}
 use Rattle.change.specs.declared.kinds.Index.{Index}
 use Rattle.change.specs.declared.kinds.Refusal.{Refusal}
 use Rattle.change.specs.Protocol.{Head, done_of, onward, turned_down, why_not_fill, why_not_clear, may_fill, may_clear}
-use Rattle.change.specs.Index.{About, refuses, must_turn, backfilled, cleaned_up, entries_filled, head_filled}
+use Rattle.change.specs.Index.{About, refuses, must_turn, backfilled, cleaned_up}
 use Rattle.change.specs.OneChange.{is_none}
 use Rattle.change.specs.Batches.{Work, filled_n, cleared_n, filled, cleared}
 use Rattle.change.specs.Heads.{head_of, head_by, about_of, work_on, Worked}

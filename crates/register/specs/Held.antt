@@ -1,5 +1,5 @@
 -- The code's register and records as the rules see them.
-use Rattle.std.specs.Prelude.{◌≡◌, ℕ, zero, suc, ◌+◌, ◌^◌, Bool, true, false, ◌&&◌, List, [], ◌∷◌, Some, None, Ok, Err, vec_items, Option, Result, nat_lt, slice_index_or}
+use Rattle.std.specs.Prelude.{◌≡◌, ℕ, zero, suc, ◌+◌, ◌^◌, Bool, true, false, ◌&&◌, List, [], ◌∷◌, None, Ok, Err, vec_items, Option, Result, nat_lt, slice_index_or}
 use Rattle.table.specs.declared.owners.Entries.{Entries}
 use Rattle.table.specs.Held.{row_of, entry_of}
 use Rattle.change.specs.declared.kinds.Index.{Index}

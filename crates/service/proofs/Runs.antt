@@ -1,21 +1,20 @@
 -- Running stores go on, and have the promises.
-use Rattle.std.proofs.Common.{◌≡◌, ℕ, zero, suc, ◌+◌, ◌-◌, ◌*◌, ◌<◌, ◌≤◌, true, List, [], ◌∷◌, IfOk, Ok, Err, Result, sym, refl, ap, ◌∙◌, subst, ap₂, true≢false, mul-le-mul_right, add-mul, arith, lit≤, MatchResult}
+use Rattle.std.proofs.Common.{◌≡◌, ℕ, ◌-◌, ◌*◌, ◌≤◌, List, [], ◌∷◌, IfOk, Ok, Err, Result, sym, refl, ap, ◌∙◌, subst, ap₂, true≢false, mul-le-mul_right, add-mul, arith, lit≤, MatchResult}
 use mathlib.Core.Logic.{∥∥₁_elim, ∥∥₁_map}
 use mathlib.Core.List.{is_set}
 use native.Mathlib.Nat.{ℕ_set}
 use Rattle.std.specs.declared.alloc.AllocError.{AllocError}
 use Rattle.register.specs.Held.{register_of, can_do, Applied}
-use Rattle.lease.specs.Clocks.{Times, Counts, Fit, Fits}
+use Rattle.lease.specs.Clocks.{Counts, Fit, Fits}
 use Rattle.register.specs.Registers.{Register, bare, applied, came_up, replayed, rows_of}
 use Rattle.table.specs.Update.{keys_for}
-use Rattle.service.specs.Calls.{Limits, Store, Claim, Call, look, found, answered, after}
-use Rattle.service.specs.World.{World, Event, passes, calls, comes_up, Comes, then, Possible, none_yet, one_more, after_all, began, says}
-use Rattle.service.specs.Promise.{Promise, Keeps}
+use Rattle.service.specs.Calls.{Store, Claim, Call, look, found, answered, after}
+use Rattle.service.specs.World.{World, Event, passes, calls, comes_up, none_yet, one_more, after_all, says}
 use Rattle.service.specs.declared.kinds.Call as codes
 use Rattle.service.specs.declared.owner.State.{State}
 use Rattle.service.specs.declared.pending.Pending.{Pending}
 use Rattle.service.specs.Held.{limits, store_of, call_of, answer_of, Called}
-use Rattle.service.specs.Reached.{times_of, Reached, Promised, HasPromises}
+use Rattle.service.specs.Reached.{times_of, Reached, HasPromises}
 use Rattle.service.proofs.Promises as promises
 
 -- a clock that counts exactly

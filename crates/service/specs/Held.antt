@@ -1,5 +1,5 @@
 -- The code's store, calls and answers as the rules see them.
-use Rattle.std.specs.Prelude.{◌≡◌, ℕ, true, List, Some, None, vec_items, Option}
+use Rattle.std.specs.Prelude.{◌≡◌, ℕ, true, Some, None, vec_items, Option}
 use Rattle.stage.specs.Stages.{ranks}
 use Rattle.change.specs.Heads.{number_of}
 use Rattle.register.specs.declared.kinds.Record as codes

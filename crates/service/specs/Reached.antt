@@ -2,8 +2,8 @@
 -- The moments are the readings of the store's own clock: from when it came up it counts exactly.
 use Rattle.std.specs.Prelude.{◌≡◌, ℕ, ◌+◌, ◌-◌, true, List}
 use Rattle.lease.specs.Clocks.{Times, Counts}
-use Rattle.service.specs.Calls.{Limits, Store}
-use Rattle.service.specs.World.{World, Event, Possible, after_all}
+use Rattle.service.specs.Calls.{Store}
+use Rattle.service.specs.World.{Event, Possible, after_all}
 use Rattle.service.specs.Promise.{Promise, CanEnd}
 use Rattle.service.specs.Held.{limits}
 

@@ -1,5 +1,5 @@
 -- What is done to an index in which stage, when a row is put, changed or taken away.
-use Rattle.std.specs.Prelude.{ℕ, Bool, true, false, cond, ◌&&◌, List, map, Some, None, Option, nat_le}
+use Rattle.std.specs.Prelude.{ℕ, Bool, false, cond, ◌&&◌, List, map, Some, None, Option, nat_le}
 use Rattle.table.specs.declared.row.Row.{Row}
 use Rattle.table.specs.Update.{is_for, taken_by_other}
 use Rattle.stage.specs.declared.kinds.Stage.{Stage}

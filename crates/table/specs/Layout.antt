@@ -1,5 +1,5 @@
 -- How rows and entries lie in words.
-use Rattle.std.specs.Prelude.{ℕ, ◌*◌, Bool, cond, List, take, drop, Some, None, Option, slice_index}
+use Rattle.std.specs.Prelude.{ℕ, ◌*◌, cond, List, take, drop, Some, None, Option, slice_index}
 use Rattle.keyset.specs.Sets.{has}
 use Rattle.table.specs.declared.row.Row.{Row}
 

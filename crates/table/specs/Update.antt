@@ -1,5 +1,5 @@
 -- Functions from keys, changed at one key, and gone through from key 0 up.
-use Rattle.std.specs.Prelude.{ℕ, Bool, true, false, cond, not, ◌&&◌, List, Some, None, Option, ◌==◌}
+use Rattle.std.specs.Prelude.{ℕ, Bool, false, cond, not, ◌&&◌, List, Some, None, Option, ◌==◌}
 use Rattle.keyset.specs.Sets.{any_below, keys_below}
 
 -- a function with another value at one place

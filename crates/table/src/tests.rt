@@ -104,9 +104,12 @@ fn rows_by_value(rt: HostRuntime) -> Result<(), Fail> {
     };
     assert_eq!(rt;
         rows.keys_with(rt.alloc(), last, MOST)?.as_slice(),
-        &[0, 4095]
+        [0, 4095].as_slice()
     );
-    assert_eq!(rt; rows.keys_with(rt.alloc(), last, 0)?.as_slice(), &[32]);
+    assert_eq!(rt;
+        rows.keys_with(rt.alloc(), last, 0)?.as_slice(),
+        [32].as_slice()
+    );
     assert!(rt; Column::new(8).is_none());
     Ok(())
 }
@@ -119,8 +122,14 @@ fn entries_at_the_edges(rt: HostRuntime) -> Result<(), Fail> {
     put_entry(&mut entries, 31, 0);
     put_entry(&mut entries, 32, MOST);
     put_entry(&mut entries, 32, 5);
-    assert_eq!(rt; entries.keys_for(rt.alloc(), MOST)?.as_slice(), &[0, 4095]);
-    assert_eq!(rt; entries.keys_for(rt.alloc(), 0)?.as_slice(), &[31]);
+    assert_eq!(rt;
+        entries.keys_for(rt.alloc(), MOST)?.as_slice(),
+        [0, 4095].as_slice()
+    );
+    assert_eq!(rt;
+        entries.keys_for(rt.alloc(), 0)?.as_slice(),
+        [31].as_slice()
+    );
     assert!(rt; entry(&entries, 32) == Some(5) && entry(&entries, 33).is_none());
     assert!(rt;
         taken(&entries, MOST, 0)

@@ -1,5 +1,5 @@
-use Rattle.std.proofs.Common.{◌≡◌, length, sym, ap, ◌∙◌, arith, length-append}
-use Rattle.keyset.specs.Sets.{has, keys_below}
+use Rattle.std.proofs.Common.{length, sym, ap, arith, length-append}
+use Rattle.keyset.specs.Sets.{has}
 use Rattle.keyset.proofs.Scans.{keys_none, keys_in, keys_out}
 use Rattle.keyset.proofs.count.Goals as goal
 use Rattle.keyset.proofs.count.Goals.{then-holds, else-holds}

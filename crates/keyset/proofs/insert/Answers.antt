@@ -1,4 +1,3 @@
-use Rattle.std.proofs.Common.{◌≡◌, ℕ, ◌/◌, ◌<◌, length, arith}
 use Rattle.keyset.proofs.Words.{has_set}
 use Rattle.keyset.proofs.insert.Goals as goal
 

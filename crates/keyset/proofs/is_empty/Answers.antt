@@ -1,4 +1,4 @@
-use Rattle.std.proofs.Common.{◌≡◌, not, sym, ap, arith}
+use Rattle.std.proofs.Common.{not, sym, ap, arith}
 use Rattle.keyset.specs.Sets.{has}
 use Rattle.keyset.proofs.Scans.{any_none, any_some}
 use Rattle.keyset.proofs.is_empty.Goals as goal

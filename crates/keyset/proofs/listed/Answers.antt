@@ -1,4 +1,4 @@
-use Rattle.std.proofs.Common.{◌≡◌, sym, ◌∙◌}
+use Rattle.std.proofs.Common.{sym, ◌∙◌}
 use Rattle.keyset.specs.Sets.{has}
 use Rattle.keyset.proofs.Scans.{keys_none, keys_in, keys_out}
 use Rattle.keyset.proofs.listed.Goals as goal

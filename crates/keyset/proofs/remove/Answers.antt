@@ -1,6 +1,4 @@
-use Rattle.std.proofs.Common.{◌≡◌, ℕ, ◌/◌, ◌<◌, ◌≤◌, Bool, false, cond, eqb, length, arith}
-use Rattle.keyset.specs.Sets.{has}
-use Rattle.keyset.proofs.Words.{has_cleared, has_past, without_past}
+use Rattle.keyset.proofs.Words.{has_cleared, without_past}
 use Rattle.keyset.proofs.remove.Goals as goal
 
 pub returns-then-at-words : goal.returns-then-at-words

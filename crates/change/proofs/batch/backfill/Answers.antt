@@ -1,16 +1,14 @@
-use Rattle.std.proofs.Common.{◌≡◌, ℕ, ◌+◌, ◌-◌, ◌<◌, ◌≤◌, min, Bool, true, false, cond, Some, None, Option, sym, refl, ap, ◌∙◌, arith}
-use mathlib.Core.Path.{subst⁻¹}
+use Rattle.std.proofs.Common.{◌≡◌, ℕ, ◌+◌, ◌<◌, Bool, true, false, Option, sym, refl, ap, ◌∙◌, arith}
 use Rattle.std.proofs.lemmas.Bool.{lt-ltb, le-ltb}
 use Rattle.table.specs.Held.{entry_of, row_of}
 use Rattle.table.specs.Layout.{value_in}
-use Rattle.table.specs.Update.{update}
 use Rattle.stage.specs.declared.kinds.Stage.TheVariants.{WriteOnly}
 use Rattle.change.specs.declared.kinds.Way.{Way}
 use Rattle.change.specs.declared.kinds.Way.TheVariants.{Up}
-use Rattle.change.specs.Protocol.{Head, there, up, down, may_fill}
+use Rattle.change.specs.Protocol.{there, up, down, may_fill}
 use Rattle.change.specs.Index.{About, refuses, must_turn, backfilled}
-use Rattle.change.specs.Heads.{head_of, head_by, about_of, work_on}
-use Rattle.change.specs.Batches.{Work, filled_n, filled}
+use Rattle.change.specs.Heads.{head_by, about_of, work_on}
+use Rattle.change.specs.Batches.{Work, filled}
 use Rattle.change.proofs.Batches.{first, next, leaves, over, fill_next, fill_turns}
 use Rattle.change.proofs.batch.backfill.Goals as goal
 use Rattle.change.proofs.batch.backfill.Goals.{else-loop-number-test, then-loop-number-test+in_default}

@@ -2,7 +2,7 @@ use Rattle.std.proofs.Common.{◌≡◌, ◌-◌}
 use Rattle.table.specs.Held.{row_of, entry_of}
 use Rattle.table.specs.Layout.{value_in}
 use Rattle.change.specs.Heads.{about_of, head_by, work_on}
-use Rattle.change.specs.Batches.{Work, filled_n}
+use Rattle.change.specs.Batches.{filled_n}
 use Rattle.change.proofs.batch.backfill.Given as goal
 
 abbrev pub invariant-loop-number : goal.invariant-loop-number

@@ -1,14 +1,11 @@
-use Rattle.std.proofs.Common.{◌≡◌, ℕ, ◌+◌, ◌-◌, ◌<◌, ◌≤◌, min, Bool, true, false, cond, Some, None, Option, sym, refl, ap, ◌∙◌, arith}
-use mathlib.Core.Path.{subst⁻¹}
+use Rattle.std.proofs.Common.{◌≡◌, ℕ, ◌+◌, ◌<◌, Bool, true, false, Option, sym, ap, ◌∙◌, arith}
 use Rattle.std.proofs.lemmas.Bool.{lt-ltb, le-ltb}
-use Rattle.table.specs.Held.{entry_of, row_of}
-use Rattle.table.specs.Layout.{value_in}
-use Rattle.table.specs.Update.{update}
+use Rattle.table.specs.Held.{entry_of}
 use Rattle.change.specs.declared.kinds.Way.{Way}
-use Rattle.change.specs.Protocol.{Head, there, down, may_clear}
+use Rattle.change.specs.Protocol.{may_clear}
 use Rattle.change.specs.Index.{About, cleaned_up}
-use Rattle.change.specs.Heads.{head_of, head_by, about_of, work_on}
-use Rattle.change.specs.Batches.{Work, cleared_n, cleared}
+use Rattle.change.specs.Heads.{head_by, about_of, work_on}
+use Rattle.change.specs.Batches.{Work, cleared}
 use Rattle.change.proofs.Batches.{first, next, over, clear_next}
 use Rattle.change.proofs.batch.cleanup.Goals as goal
 use Rattle.change.proofs.batch.cleanup.Goals.{else-loop-number-test, then-loop-number-test+in_default}

@@ -1,7 +1,7 @@
 use Rattle.std.proofs.Common.{◌≡◌, ◌-◌}
 use Rattle.table.specs.Held.{entry_of}
 use Rattle.change.specs.Heads.{about_of, head_by, work_on}
-use Rattle.change.specs.Batches.{Work, cleared_n}
+use Rattle.change.specs.Batches.{cleared_n}
 use Rattle.change.proofs.batch.cleanup.Given as goal
 
 abbrev pub invariant-loop-number : goal.invariant-loop-number

@@ -1,5 +1,5 @@
-use Rattle.std.proofs.Common.{◌≡◌, arith}
-use Rattle.stage.specs.Stages.{rank, ranks}
+use Rattle.std.proofs.Common.{arith}
+use Rattle.stage.specs.Stages.{rank}
 use Rattle.lease.proofs.Turns.{all_left, all_none}
 use Rattle.lease.proofs.book.all_at.Goals as goal
 

@@ -1,5 +1,5 @@
 use Rattle.std.proofs.Common.{◌≡◌, drop}
-use Rattle.stage.specs.Stages.{rank, ranks}
+use Rattle.stage.specs.Stages.{rank}
 use Rattle.lease.specs.Leases.{all_at}
 use Rattle.lease.specs.Books.{book_of}
 use Rattle.lease.proofs.book.all_at.Given as goal

@@ -1,5 +1,5 @@
-use Rattle.std.proofs.Common.{◌≡◌, arith}
-use Rattle.stage.specs.Stages.{rank, ranks}
+use Rattle.std.proofs.Common.{arith}
+use Rattle.stage.specs.Stages.{ranks}
 use Rattle.lease.proofs.Turns.{holds_left, holds_none}
 use Rattle.lease.proofs.book.holds.Goals as goal
 

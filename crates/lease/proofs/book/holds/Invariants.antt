@@ -1,5 +1,5 @@
 use Rattle.std.proofs.Common.{◌≡◌, drop}
-use Rattle.stage.specs.Stages.{rank, ranks}
+use Rattle.stage.specs.Stages.{ranks}
 use Rattle.lease.specs.Leases.{holds}
 use Rattle.lease.specs.Books.{book_of}
 use Rattle.lease.proofs.book.holds.Given as goal

@@ -1,4 +1,4 @@
-use Rattle.std.proofs.Common.{◌≡◌, arith}
+use Rattle.std.proofs.Common.{arith}
 use Rattle.lease.proofs.Turns.{newest_left, newest_none}
 use Rattle.lease.proofs.book.newest.Goals as goal
 

@@ -1,4 +1,4 @@
-use Rattle.std.proofs.Common.{◌≡◌, List, [], ◌∷◌, ◌++◌, vec_items, Vec, sym, ap, ◌∙◌, append-nil, arith}
+use Rattle.std.proofs.Common.{List, ◌++◌, vec_items, Vec, sym, ap, ◌∙◌, append-nil, arith}
 use Rattle.std.specs.declared.alloc.Global.{Global}
 use Rattle.lease.specs.declared.kinds.Lease.{Lease}
 use Rattle.lease.specs.Leases as rules

@@ -1,4 +1,4 @@
-use Rattle.std.proofs.Common.{◌≡◌, ◌∷◌, take, vec_items}
+use Rattle.std.proofs.Common.{◌≡◌, take, vec_items}
 use Rattle.lease.specs.Desks.{with_new}
 use Rattle.lease.proofs.office.with_grant.Given as goal
 

@@ -1,4 +1,4 @@
-use Rattle.std.proofs.Common.{◌≡◌, ℕ, ◌<◌, Bool, false, length, get_or, Some, sym, ap, ◌∙◌, arith, below_more}
+use Rattle.std.proofs.Common.{get_or, Some, sym, ◌∙◌, arith, below_more}
 use Rattle.keyset.proofs.Scans.{any_none, any_some}
 use Rattle.stage.specs.Stages.{ranks}
 use Rattle.change.specs.Index.{refuses}

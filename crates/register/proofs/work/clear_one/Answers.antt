@@ -1,7 +1,5 @@
-use Rattle.std.proofs.Common.{◌≡◌, ℕ, ◌<◌, length, get_or, sym, ◌∙◌, arith, length-set}
+use Rattle.std.proofs.Common.{◌<◌, length, get_or, sym, ◌∙◌, arith}
 use mathlib.Core.Path.{fun_ext}
-use Rattle.change.specs.Protocol.{done_of}
-use Rattle.change.specs.Heads.{head_of}
 use Rattle.register.proofs.Parts.{entry_at}
 use Rattle.register.proofs.Keys.{cleared_one, done_there}
 use Rattle.register.proofs.work.clear_one.Goals as goal

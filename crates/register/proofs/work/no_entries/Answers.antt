@@ -1,4 +1,4 @@
-use Rattle.std.proofs.Common.{◌≡◌, ℕ, ◌+◌, length, None, vec_items, sym, ap, ◌∙◌, arith, length-append}
+use Rattle.std.proofs.Common.{◌+◌, length, ap, ◌∙◌, arith, length-append}
 use Rattle.register.specs.Held.{entry_in}
 use Rattle.register.proofs.Parts.{none_more}
 use Rattle.register.proofs.work.no_entries.Goals as goal

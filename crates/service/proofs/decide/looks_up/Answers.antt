@@ -1,4 +1,4 @@
-use Rattle.std.proofs.Common.{◌≡◌, ℕ, eqb, get_or, sym, ap, ◌∙◌}
+use Rattle.std.proofs.Common.{eqb, get_or, sym, ap, ◌∙◌}
 use Rattle.stage.specs.declared.kinds.Stage.TheVariants.{Absent}
 use Rattle.stage.specs.Stages.{rank}
 use Rattle.stage.proofs.Ranks.{rank_at}

@@ -1,7 +1,6 @@
-use Rattle.std.proofs.Common.{◌≡◌, ℕ, ◌+◌, ◌*◌, false, eqb, get_or, sym, ap, ◌∙◌}
+use Rattle.std.proofs.Common.{ℕ, ◌+◌, ◌*◌, eqb, get_or, sym, ap, ◌∙◌}
 use Rattle.std.proofs.lemmas.Bool.{eq-eqb, ne_eqb}
 use Rattle.keyset.specs.Sets.{has}
-use Rattle.table.specs.Layout.{value_in, row_at}
 use Rattle.table.specs.Update.{is_for}
 use Rattle.table.proofs.Laid.{value_at, is_same, is_other}
 use Rattle.table.proofs.words.is_row_for.Goals as goal

@@ -1,4 +1,4 @@
-use Rattle.std.proofs.Common.{◌≡◌, ℕ, Bool, sym, ◌∙◌}
+use Rattle.std.proofs.Common.{ℕ, Bool, sym, ◌∙◌}
 use Rattle.keyset.proofs.Scans.{keys_none, keys_in, keys_out}
 use Rattle.table.specs.Layout.{row_at, value_in}
 use Rattle.table.specs.Update.{is_for}

@@ -1,4 +1,4 @@
-use Rattle.std.proofs.Common.{◌≡◌, ℕ, true, false, not, eqb, sym, ap, ◌∙◌, arith}
+use Rattle.std.proofs.Common.{not, eqb, sym, arith}
 use Rattle.std.proofs.lemmas.Bool.{ne_eqb, and_from, not_from_false}
 use Rattle.keyset.proofs.Scans.{any_none, any_some}
 use Rattle.table.specs.Layout.{entry_at}

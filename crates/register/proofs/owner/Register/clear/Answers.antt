@@ -1,14 +1,10 @@
-use Rattle.std.proofs.Common.{◌≡◌, ℕ, ◌<◌, true, false, not, ◌&&◌, eqb, length, get_or, Some, None, vec_items, Option, sym, ap, ◌∙◌, ap₂, arith}
+use Rattle.std.proofs.Common.{◌≡◌, ◌<◌, true, false, length, get_or, Some, None, sym, ap, ◌∙◌, ap₂, arith}
 use Rattle.std.proofs.lemmas.List.{get_or_default}
 use Rattle.change.specs.Heads.{head_of, slot_of}
-use Rattle.table.specs.Held.{row_of}
 use Rattle.table.proofs.Lent.{Lent, lent, lent_length}
 use Rattle.std.specs.Vec.{with_items}
-use Rattle.table.specs.Layout.{value_in}
 use Rattle.table.specs.Update.{update}
-use Rattle.change.specs.Index.{backfilled, cleaned_up, must_turn}
-use Rattle.change.specs.Protocol.{done_of, why_not_fill}
-use Rattle.change.specs.OneChange.{is_none}
+use Rattle.change.specs.Index.{cleaned_up}
 use Rattle.register.specs.Held.{register_of, entry_in, head_in}
 use Rattle.register.proofs.Keys.{can_clear, did_clear, left_alone, refused_record}
 use Rattle.register.proofs.owner.Register.clear.Goals as goal

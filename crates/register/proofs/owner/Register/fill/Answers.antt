@@ -6,7 +6,7 @@ use Rattle.table.proofs.Lent.{Lent, lent, lent_length}
 use Rattle.std.specs.Vec.{with_items}
 use Rattle.table.specs.Layout.{value_in}
 use Rattle.table.specs.Update.{update}
-use Rattle.change.specs.Index.{backfilled, cleaned_up, must_turn}
+use Rattle.change.specs.Index.{backfilled, must_turn}
 use Rattle.change.specs.Protocol.{done_of, why_not_fill}
 use Rattle.change.specs.OneChange.{is_none}
 use Rattle.register.specs.Held.{register_of, entry_in, head_in}

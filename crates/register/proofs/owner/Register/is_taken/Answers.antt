@@ -1,5 +1,5 @@
-use Rattle.std.proofs.Common.{◌≡◌, ◌<◌, length, vec_items, sym, ap, ◌∙◌, arith}
-use Rattle.table.specs.Held.{entry_of, row_of}
+use Rattle.std.proofs.Common.{◌<◌, length, vec_items, sym, ap, ◌∙◌, arith}
+use Rattle.table.specs.Held.{row_of}
 use Rattle.table.specs.Layout.{value_in}
 use Rattle.change.specs.Index.{refuses}
 use Rattle.change.specs.Heads.{head_of}

@@ -1,4 +1,4 @@
-use Rattle.std.proofs.Common.{◌≡◌, ◌+◌, ◌&&◌, map, drop, sym, refl, ap, ◌∙◌, ap₂}
+use Rattle.std.proofs.Common.{◌+◌, ◌&&◌, map, drop, sym, refl, ap, ◌∙◌, ap₂}
 use Rattle.register.specs.Registers.{applied, replayed}
 use Rattle.register.specs.Held.{register_of, record_of, can_do_all}
 use Rattle.register.proofs.Parts.{can_left, replay_left, can_none, replay_none}

@@ -1,4 +1,4 @@
-use Rattle.std.proofs.Common.{◌≡◌, true, map, drop}
+use Rattle.std.proofs.Common.{◌≡◌, map, drop}
 use Rattle.register.specs.Registers.{replayed}
 use Rattle.register.specs.Held.{register_of, record_of, can_do_all}
 use Rattle.register.proofs.owner.Register.replay.Given as goal

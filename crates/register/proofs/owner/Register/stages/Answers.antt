@@ -1,4 +1,4 @@
-use Rattle.std.proofs.Common.{length, arith}
+use Rattle.std.proofs.Common.{arith}
 use Rattle.register.specs.Registers.{stages_now}
 use Rattle.register.proofs.Parts.{stage_read}
 use Rattle.register.proofs.owner.Register.stages.Goals as goal

@@ -1,4 +1,4 @@
-use Rattle.std.proofs.Common.{◌≡◌, get_or, sym, ap, ◌∙◌, ap₂}
+use Rattle.std.proofs.Common.{get_or, sym, ap, ◌∙◌, ap₂}
 use Rattle.std.specs.Vec.{with_items}
 use Rattle.table.specs.Held.{row_of}
 use Rattle.table.specs.Update.{update}

@@ -1,4 +1,4 @@
-use Rattle.std.proofs.Common.{◌≡◌, ◌+◌, ◌≤◌, length, take, vec_items, sym, refl, arith, take_all, rules}
+use Rattle.std.proofs.Common.{◌+◌, ◌≤◌, length, vec_items, sym, refl, take_all, rules}
 use Rattle.service.proofs.journal.Memory.stop.Goals as goal
 
 pub returns-else-keep-rest : goal.returns-else-keep-rest

@@ -1,4 +1,4 @@
-use Rattle.std.proofs.Common.{◌≡◌, vec_items, sym, ap, ◌∙◌, subst}
+use Rattle.std.proofs.Common.{vec_items, sym, ap, ◌∙◌, subst}
 use Rattle.register.specs.Held.{register_of}
 use Rattle.lease.specs.declared.kinds.Book.{Book}
 use Rattle.lease.specs.Books.{book_of}

@@ -1,4 +1,4 @@
-use Rattle.std.proofs.Common.{◌≡◌, ap, ◌∙◌, ap₂, arith}
+use Rattle.std.proofs.Common.{ap, ◌∙◌, ap₂}
 use Rattle.change.specs.Protocol.{why_not_down}
 use Rattle.service.specs.Calls.{unless_quiet}
 use Rattle.service.specs.Held.{limits, store_of}

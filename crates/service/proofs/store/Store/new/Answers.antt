@@ -1,4 +1,4 @@
-use Rattle.std.proofs.Common.{◌≡◌, List, [], sym, ap, ◌∙◌, subst, ap₂}
+use Rattle.std.proofs.Common.{List, sym, ap, subst, ap₂}
 use Rattle.register.specs.Registers.{Register}
 use Rattle.register.specs.Held.{register_of}
 use Rattle.lease.specs.Leases.{Lease}

@@ -1,4 +1,4 @@
-use Rattle.std.proofs.Common.{ℕ, List, Some, ◌∙◌}
+use Rattle.std.proofs.Common.{Some, ◌∙◌}
 use Rattle.table.specs.Layout.{entry_at}
 use Rattle.table.proofs.Lent.{Lent, lent_length, both_lent}
 use Rattle.table.proofs.owners.Entries.put.Goals as goal

@@ -1,4 +1,4 @@
-use Rattle.std.proofs.Common.{◌≡◌, vec_items}
+use Rattle.std.proofs.Common.{vec_items}
 use Rattle.std.proofs.lemmas.Result.{IfOk-from_err}
 use Rattle.table.proofs.Laid.{no_row}
 use Rattle.table.proofs.owners.Rows.new.Goals as goal

@@ -1,4 +1,4 @@
-use Rattle.std.proofs.Common.{ℕ, List, Some, ◌∙◌}
+use Rattle.std.proofs.Common.{Some, ◌∙◌}
 use Rattle.table.specs.Layout.{row_at}
 use Rattle.table.proofs.Lent.{Lent, lent_length, both_lent}
 use Rattle.table.proofs.owners.Rows.put.Goals as goal
