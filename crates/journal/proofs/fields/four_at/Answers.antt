@@ -1,0 +1,10 @@
+use Rattle.std.proofs.Common.{◌+◌, sym, ◌∙◌, arith}
+use Rattle.journal.proofs.Numbers.{first_four, four_of}
+use Rattle.journal.proofs.fields.four_at.Goals as goal
+
+pub returns : goal.returns
+returns c =
+    let at = c.args.at in
+    let small = c.type_inv.bytes in
+    first_four c.args.bytes.now at (omega arith)
+    ∙ sym (four_of c.from_be_bytes.result _ _ _ _ _ (omega (arith, small at)) (omega (arith, small (at + 1))) (omega (arith, small (at + 2))) (omega (arith, small (at + 3))) (omega arith))

@@ -1,0 +1,17 @@
+//! The journal: the bytes of its records, and records read back.
+
+#![tactic(auto)]
+
+mod fields;
+mod kinds;
+mod records;
+mod theorems;
+mod write;
+
+pub use kinds::Reading;
+pub use records::decode;
+pub use theorems::{cut_leaves_records, reads_what_was_written};
+pub use write::encode;
+
+#[cfg(test)]
+mod tests;
