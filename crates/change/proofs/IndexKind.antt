@@ -6,12 +6,12 @@ use Rattle.stage.specs.Stages.{puts_in, entry_after}
 use Rattle.change.specs.Protocol.{Way, Head, there, Kind}
 use Rattle.change.specs.Index.{About, unique_of, refuses, Part, NoOrphan, NoneTwice, Always, Base, NoneTo, AllTo, Writes, writes, Fills, fills, Clears, clears}
 
-none_below : (f : ℕ → Bool) (n : ℕ) → any_below f n ≡ false → (j : ℕ) → j < n → f j ≡ false
+pub none_below : (f : ℕ → Bool) (n : ℕ) → any_below f n ≡ false → (j : ℕ) → j < n → f j ≡ false
 unfolding any_below
 none_below f zero e j l = absurd (omega arith)
 none_below f (suc n) e j l = let ih : any_below f n ≡ false → j < n → f j ≡ false = λ z. none_below f n z j in grind arith
 
-some_below : (f : ℕ → Bool) (n : ℕ) → any_below f n ≡ true → (j : ℕ) × (j < n) × (f j ≡ true)
+pub some_below : (f : ℕ → Bool) (n : ℕ) → any_below f n ≡ true → (j : ℕ) × (j < n) × (f j ≡ true)
 unfolding any_below
 some_below f zero e = absurd (grind arith)
 some_below f (suc n) e = go (any_below f n) refl (some_below f n)

@@ -106,13 +106,13 @@ module _ (R : rules.Register) (i k : ℕ) (x : Index) (small : i < 8) (is : R.he
   can_clear true m = rw (lt-ltb i 8 small, is, m)
   can_clear false m = rw (lt-ltb i 8 small, is, m)
 
-  pub can_fill : (b : Bool) → is_none (why_not_fill 4096 true (head_of x)) && eqb k (done_of (head_of x)) && not (must_turn 4096 seen (R.entry i) (head_of x)) ≡ b → can_do (rules.filled i k) R ≡ b
-  can_fill b m = go b m (rows_of i R) same_rows
+  pub can_fill : (es : ℕ → Option ℕ) → es ≡ R.entry i → (b : Bool) → is_none (why_not_fill 4096 true (head_of x)) && eqb k (done_of (head_of x)) && not (must_turn 4096 seen es (head_of x)) ≡ b → can_do (rules.filled i k) R ≡ b
+  can_fill es own b m = go b m (rows_of i R) same_rows
     where
-      go : (b : Bool) → is_none (why_not_fill 4096 true (head_of x)) && eqb k (done_of (head_of x)) && not (must_turn 4096 seen (R.entry i) (head_of x)) ≡ b → (rows : ℕ → Option ℕ) → rows ≡ seen
+      go : (b : Bool) → is_none (why_not_fill 4096 true (head_of x)) && eqb k (done_of (head_of x)) && not (must_turn 4096 seen es (head_of x)) ≡ b → (rows : ℕ → Option ℕ) → rows ≡ seen
           → ltb i 8 && is_none (why_not_fill 4096 true (R.head i)) && eqb k (done_of (R.head i)) && not (must_turn 4096 rows (R.entry i) (R.head i)) && true ≡ b
-      go true m rows e = rw (lt-ltb i 8 small, is, e, m)
-      go false m rows e = rw (lt-ltb i 8 small, is, e, m)
+      go true m rows e = rw (lt-ltb i 8 small, is, e, ← own, m)
+      go false m rows e = rw (lt-ltb i 8 small, is, e, ← own, m)
 
   module _ (y : Index) (fs : ℕ → ℕ → Option ℕ) (onwards : head_of y ≡ onward (head_of x)) where
     worked : (es : ℕ → Option ℕ) → ((n j : ℕ) → fs n j ≡ update i es R.entry n j) → ◌≡◌ {A = rules.Register} (record { row = R.row; entry = fs; head = update i (head_of y) R.head; epoch = R.epoch }) (worked_on i es R)

@@ -1,24 +1,26 @@
 -- Entries and heads of several indexes, once those of one are changed.
-use Rattle.std.proofs.Common.{◌≡◌, ℕ, zero, suc, ◌+◌, ◌<◌, ◌≤◌, true, cond, ◌&&◌, eqb, leb, List, [], ◌∷◌, ◌++◌, map, length, get_or, drop, set, replicate, Some, None, Option, sym, refl, ap, ◌∙◌, ap₂, ⊎_elim, arith}
+use Rattle.std.proofs.Common.{◌≡◌, ℕ, zero, suc, ◌+◌, ◌<◌, ◌≤◌, true, cond, eqb, leb, List, [], ◌∷◌, ◌++◌, length, get_or, set, replicate, Some, None, vec_items, Option, sym, refl, ap, ◌∙◌, ap₂, ⊎_elim, arith}
 use mathlib.Core.Path.{fun_ext}
-use Rattle.std.proofs.lemmas.List.{get_or_default, at_drop_more, at_drop_all}
+use Rattle.std.proofs.lemmas.List.{get_or_default}
 use Rattle.std.proofs.lemmas.Bool.{cases_eq, eq-eqb, ne_eqb, and_from}
+use Rattle.std.specs.Vec.{with_items}
 use Rattle.table.specs.declared.owners.Entries.{Entries}
 use Rattle.table.specs.declared.row.Row.{Row}
 use Rattle.table.specs.declared.owners.Rows.{Rows}
 use Rattle.table.specs.Held.{entry_of, row_of}
 use Rattle.table.specs.Update.{update}
+use Rattle.table.proofs.Lent.{Lent, lent, lent_length}
 use Rattle.stage.specs.declared.kinds.Stage.{Stage}
 use Rattle.stage.specs.declared.kinds.Stage.TheVariants.{Absent, DeleteOnly, WriteOnly, Public}
 use Rattle.stage.specs.Stages.{rank, ranks}
 use Rattle.stage.proofs.Ranks.{rank_at}
 use Rattle.change.specs.declared.kinds.Index.{Index}
 use Rattle.change.specs.Index.{refuses}
-use Rattle.change.specs.Heads.{slot_of}
+use Rattle.change.specs.Heads.{head_of, slot_of}
 use Rattle.change.specs.Protocol.{gone, stage_of}
-use Rattle.register.specs.Registers.{Register, bare, cell_of, applied, replayed, all_stages, are_stages, wrote}
-use Rattle.register.specs.declared.kinds.Record as codes
-use Rattle.register.specs.Held.{entry_in, head_in, record_of, can_do, can_do_all}
+use Rattle.register.specs.declared.owner.Register as codes
+use Rattle.register.specs.Registers.{Register, bare, cell_of, all_stages, are_stages, wrote}
+use Rattle.register.specs.Held.{entry_in, head_in}
 
 -- the entries of one index
 pub entry_at : (es : List Entries) (i : ℕ) (d : Entries) → i < length es → (j : ℕ) → entry_in es i j ≡ entry_of (get_or es i d) j
@@ -120,24 +122,21 @@ refusal_at hs es ss k row n d e l m is =
 pub stage_read : (hs : List (Option Index)) (n : ℕ) (d : Option Index) (s : ℕ) → n < length hs → s ≡ stage_of (slot_of (get_or hs n d)) → s ≡ stage_of (head_in hs n)
 stage_read hs n d s l e = e ∙ ap (λ h. stage_of (slot_of h)) (get_or_default hs n d None l)
 
--- one record more: what is left decides
-module _ (xs : List codes.Record) (n : ℕ) (x : codes.Record) (R : Register) (l : n < length xs) (is : x ≡ get_or xs n x) where
-  pub can_left : can_do_all (map record_of (drop n xs)) R ≡ can_do (record_of x) R && can_do_all (map record_of (drop (n + 1) xs)) (applied (record_of x) R)
-  unfolding can_do_all
-  can_left =
-      at_drop_more (λ (ys : List codes.Record). can_do_all (map record_of ys) R) xs n x l
-      ∙ ap (λ y. can_do (record_of y) R && can_do_all (map record_of (drop (n + 1) xs)) (applied (record_of y) R)) (sym is)
+-- the head of an index, once it is read and is there
+pub head_read : (s : codes.Register) (i n : ℕ) (d : Option Index) (x : Index) → i < 8 → n ≡ i → get_or s.heads n d ≡ Some x → head_in s.heads i ≡ head_of x
+head_read s i n d x small e there =
+    let inside : n < length s.heads = let z = s.heads_long in omega arith in
+    ap (λ m. slot_of (get_or s.heads m None)) (sym e) ∙ ap slot_of (get_or_default s.heads n None d inside ∙ there)
 
-  pub replay_left : replayed (map record_of (drop n xs)) R ≡ replayed (map record_of (drop (n + 1) xs)) (applied (record_of x) R)
-  unfolding replayed
-  replay_left =
-      at_drop_more (λ (ys : List codes.Record). replayed (map record_of ys) R) xs n x l
-      ∙ ap (λ y. replayed (map record_of (drop (n + 1) xs)) (applied (record_of y) R)) (sym is)
+-- a register whose entries were lent as us and came back as ws
+module _ (s : codes.Register) (us ws : List Entries) (long : length ws ≡ length us) (value : us ≡ vec_items s.entries) where
+  back : Lent s.entries us ws
+  back = record { long = long; value = value }
 
-pub can_none : (xs : List codes.Record) (n : ℕ) (R : Register) → length xs ≤ n → can_do_all (map record_of (drop n xs)) R ≡ true
-unfolding can_do_all
-can_none xs n R l = at_drop_all (λ (ys : List codes.Record). can_do_all (map record_of ys) R) xs n l
+  pub still_long : length (with_items s.entries ws).items ≡ 8
+  still_long = lent_length s.entries us ws back ∙ s.entries_long
 
-pub replay_none : (xs : List codes.Record) (n : ℕ) (R : Register) → length xs ≤ n → replayed (map record_of (drop n xs)) R ≡ R
-unfolding replayed
-replay_none xs n R l = at_drop_all (λ (ys : List codes.Record). replayed (map record_of ys) R) xs n l
+  -- what was done to them, said of the register's own
+  pub came_back : {X : Type 0} (A : X → List Entries → ℕ → ℕ → Option ℕ) (x y : X) → x ≡ y → ((i j : ℕ) → entry_in ws i j ≡ A x us i j)
+      → (i j : ℕ) → entry_in (with_items s.entries ws).items i j ≡ A y (vec_items s.entries) i j
+  came_back A x y e did i j = ap (λ es. entry_in es i j) (lent s.entries us ws back) ∙ did i j ∙ ap₂ (λ z es. A z es i j) e value

@@ -1,2 +1,4 @@
 pub mod Registers
+pub mod Whole
+pub mod Right
 pub mod Held

@@ -1,6 +1,6 @@
 //! What a writer does to all indexes.
 
-ghost use Rattle.std.specs.Prelude.{◌≡◌, ℕ, ◌+◌, ◌<◌, ◌≤◌, Bool, true, false, cond, length, Some, None, slice_index};
+ghost use Rattle.std.specs.Prelude.{◌≡◌, ℕ, length, Some, slice_index};
 ghost use Rattle.table.specs.Held.{entry_of};
 ghost use Rattle.table.specs.Update.{update};
 ghost use Rattle.stage.specs.Stages.{rank, ranks, written, entry_after};

@@ -8,8 +8,12 @@ mod owner;
 mod reads;
 mod steps;
 mod theorems;
+mod whole;
 mod work;
 
 pub use kinds::Record;
 pub use owner::Register;
 pub use theorems::replays_in_order;
+
+#[cfg(test)]
+mod tests;

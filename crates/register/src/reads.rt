@@ -1,6 +1,6 @@
 //! What can be asked of the register.
 
-ghost use Rattle.std.specs.Prelude.{◌≡◌, ℕ, ◌+◌, ◌<◌, ◌≤◌, Bool, true, false, cond, ◌&&◌, ◌||◌, length, IfOk, Some, None, slice_index};
+ghost use Rattle.std.specs.Prelude.{◌≡◌, true, false, length, IfOk, Some, None, slice_index};
 ghost use Rattle.table.specs.Held.{entry_of};
 ghost use Rattle.table.specs.Update.{keys_for};
 ghost use Rattle.table.specs.Layout.{value_in};
@@ -33,6 +33,13 @@ impl Register {
         ensures { slot_of result ≡ (register_of self.now).head index.number }
     {
         self.heads[index.number() as usize]
+    }
+
+    /// The entry of a key in an index: its value, if there is one.
+    pub fn entry(&self, index: Slot, key: Key) -> Option<u32>
+        ensures { result ≡ (register_of self.now).entry index.number key.number }
+    {
+        self.entries[index.number() as usize].get(key)
     }
 
     /// How often the store has come up.

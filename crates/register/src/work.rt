@@ -1,6 +1,6 @@
 //! Backfill and cleanup of one key of an index.
 
-ghost use Rattle.std.specs.Prelude.{◌≡◌, ℕ, ◌+◌, ◌<◌, ◌≤◌, Bool, true, false, cond, not, ◌&&◌, length, IfOk, None, ◌==◌};
+ghost use Rattle.std.specs.Prelude.{◌≡◌, ℕ, ◌<◌, true, false, not, ◌&&◌, length, IfOk, None, ◌==◌};
 ghost use Rattle.table.specs.Held.{row_of, entry_of};
 ghost use Rattle.table.specs.Layout.{value_in};
 ghost use Rattle.change.specs.Protocol.{done_of, why_not_fill, why_not_clear};

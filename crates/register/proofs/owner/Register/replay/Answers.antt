@@ -1,7 +1,7 @@
 use Rattle.std.proofs.Common.{◌+◌, ◌&&◌, map, drop, sym, refl, ap, ◌∙◌, ap₂}
 use Rattle.register.specs.Registers.{applied, replayed}
 use Rattle.register.specs.Held.{register_of, record_of, can_do_all}
-use Rattle.register.proofs.Parts.{can_left, replay_left, can_none, replay_none}
+use Rattle.register.proofs.Left.{can_left, replay_left, can_none, replay_none}
 use Rattle.register.proofs.owner.Register.replay.Goals as goal
 
 pub returns-in_default : goal.returns-in_default
