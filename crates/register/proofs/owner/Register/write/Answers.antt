@@ -1,4 +1,4 @@
-use Rattle.std.proofs.Common.{ℕ, List, get_or, Option, sym, ap, ◌∙◌}
+use Rattle.std.proofs.Common.{ℕ, List, get_or, Option, sym, ap, ◌∙◌, rules}
 use Rattle.table.specs.declared.row.Row.{Row}
 use Rattle.table.specs.declared.owners.Entries.{Entries}
 use Rattle.table.specs.Held.{row_of}
@@ -28,7 +28,7 @@ returns-in-Put c =
     let n = written c.args.write in
     all_wrote (register_of s) k n ss (row_of c.put.new.self) _
     (λ j. c.put.ensures j ∙ ap (λ w. update k (written w) (row_of s.rows) j) (sym c.in-Put.is))
-    (came_back s _ _ c.follow_all.auto.entries c.as_mut_slice.ensures.value (after s k n ss) _ _ c.get-old.ensures c.follow_all.ensures)
+    (came_back s _ _ c.follow_all.auto.entries c.as_mut_slice.ensures.value (after s k n ss) _ _ (search rules) c.follow_all.ensures)
 
 pub returns-in-Take : goal.returns-in-Take
 returns-in-Take c =
@@ -38,4 +38,4 @@ returns-in-Take c =
     let n = written c.args.write in
     all_wrote (register_of s) k n ss (row_of c.take.new.self) _
     (λ j. c.take.ensures j ∙ ap (λ w. update k (written w) (row_of s.rows) j) (sym c.in-Take.is))
-    (came_back s _ _ c.follow_all.auto.entries c.as_mut_slice.ensures.value (after s k n ss) _ _ c.get-old.ensures c.follow_all.ensures)
+    (came_back s _ _ c.follow_all.auto.entries c.as_mut_slice.ensures.value (after s k n ss) _ _ (search rules) c.follow_all.ensures)
