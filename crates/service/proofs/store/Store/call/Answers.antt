@@ -1,4 +1,4 @@
-use Rattle.std.proofs.Common.{◌≡◌, ◌≤◌, refl, ◌∙◌, subst₂, arith, rules, MatchResult}
+use Rattle.std.proofs.Common.{◌≡◌, refl, ◌∙◌, subst₂, arith, rules, MatchResult}
 use Rattle.service.specs.Held.{store_of, Called}
 use Rattle.service.proofs.Runs.{goes_on, finds, has_promises}
 use Rattle.service.proofs.store.Store.call.Goals as goal
