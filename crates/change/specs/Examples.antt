@@ -9,7 +9,7 @@ use Rattle.change.specs.OneChange.{State, empty, Step, writes, joins, leaves, ma
 abbrev pub unique_index : About
 unique_index = record { column = 0; unique = true }
 
--- a unique index is brought to public, and rows are entries_written in every stage, by holders one stage apart
+-- a unique index is brought to public, and rows are written in every stage, by holders one stage apart
 abbrev pub to_public : List Step
 to_public =
     joins ∷ writes 0 0 (Some 7) ∷ made unique_index ∷ writes 0 1 (Some 8) ∷ goes_up

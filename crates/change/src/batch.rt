@@ -5,7 +5,7 @@ ghost use Rattle.table.specs.Held.{row_of, entry_of};
 ghost use Rattle.table.specs.Layout.{value_in};
 ghost use Rattle.table.specs.Update.{update};
 ghost use Rattle.stage.specs.Stages.{put_in};
-ghost use Rattle.change.specs.Index.{refuses as refusedIn, backfilled};
+ghost use Rattle.change.specs.Index.{refuses as refused_in, backfilled};
 ghost use Rattle.change.specs.Protocol.{why_not_fill, why_not_clear};
 ghost use Rattle.change.specs.Heads.{head_of, numbered, work_on, Worked};
 ghost use Rattle.change.specs.Batches.{filled_n, cleared_n};
@@ -18,7 +18,7 @@ use table::{Entries, Rows};
 /// Puts in the entry of a key's row, if it has one. Answers whether the value is taken by another key in a unique
 /// index: then nothing is put in.
 fn fill_key(head: Index, rows: &Rows, entries: &mut Entries, key: Key) -> bool
-    ensures taken { result ≡ refusedIn 4096 (head_of head) 2 key.number (value_in head.column.number (row_of rows.now key.number)) (entry_of entries.old) }
+    ensures taken { result ≡ refused_in 4096 (head_of head) 2 key.number (value_in head.column.number (row_of rows.now key.number)) (entry_of entries.old) }
     ensures entries { (j : ℕ) → entry_of entries.new j ≡ (if result then entry_of entries.old j else backfilled key.number (λ k. value_in head.column.number (row_of rows.now k)) (entry_of entries.old) j) }
 {
     let Some(row) = rows.get(key) else {

@@ -6,7 +6,7 @@ ghost use Rattle.table.specs.Update.{keys_for};
 ghost use Rattle.table.specs.Layout.{value_in};
 ghost use Rattle.stage.specs.Stages.{rank, ranks};
 ghost use Rattle.change.specs.Protocol.{stage_of};
-ghost use Rattle.change.specs.Index.{refuses as refusedIn};
+ghost use Rattle.change.specs.Index.{refuses as refused_in};
 ghost use Rattle.change.specs.Heads.{head_of, slot_of};
 ghost use Rattle.keyset.specs.Sets.{any_below};
 ghost use Rattle.register.specs.Registers.{cell_of, stages_now, refused_by};
@@ -75,7 +75,7 @@ impl Register {
 
     /// Whether another key has an entry for the value of a key's row, in a unique index with that head.
     pub fn is_taken(&self, index: Slot, head: Index, key: Key) -> bool
-        ensures { result ≡ refusedIn 4096 (head_of head) 2 key.number (value_in head.column.number ((register_of self.now).row key.number)) ((register_of self.now).entry index.number) }
+        ensures { result ≡ refused_in 4096 (head_of head) 2 key.number (value_in head.column.number ((register_of self.now).row key.number)) ((register_of self.now).entry index.number) }
     {
         is_taken(
             head,
@@ -122,7 +122,7 @@ fn stage_in(slot: Option<Index>) -> Stage
 
 /// Whether an index refuses a key's row.
 fn refuses_one(slot: Option<Index>, entries: &Entries, stage: Stage, key: Key, row: Row) -> bool
-    ensures { result ≡ refusedIn 4096 (slot_of slot) (rank stage) key.number (cell_of (slot_of slot) (Some row)) (entry_of entries.now) }
+    ensures { result ≡ refused_in 4096 (slot_of slot) (rank stage) key.number (cell_of (slot_of slot) (Some row)) (entry_of entries.now) }
 {
     match slot {
         Some(head) => stage::refuses(
@@ -146,7 +146,7 @@ fn any_refuses(
     row: Row,
 ) -> bool
     requires { length entries.now ≡ 8 }
-    ensures { result ≡ any_below (λ i. refusedIn 4096 (head_in heads.now i) (slice_index (ranks stages.now) i) key.number (cell_of (head_in heads.now i) (Some row)) (entry_in entries.now i)) 8 }
+    ensures { result ≡ any_below (λ i. refused_in 4096 (head_in heads.now i) (slice_index (ranks stages.now) i) key.number (cell_of (head_in heads.now i) (Some row)) (entry_in entries.now i)) 8 }
 {
     for i in 0..INDEXES {
         if refuses_one(heads[i], &entries[i], stages[i], key, row) {

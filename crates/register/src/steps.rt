@@ -3,7 +3,7 @@
 ghost use Rattle.std.specs.Prelude.{◌≡◌, ℕ, ◌+◌, ◌<◌, ◌≤◌, Bool, true, false, cond, List, map, length, IfOk, Some, None};
 ghost use Rattle.stage.specs.Stages.{ranks, written};
 ghost use Rattle.change.specs.Heads.{slot_of};
-ghost use Rattle.register.specs.Registers.{bare, wrote, with_head, applied, put, removed, made as indexMade, went_up, turned, went_down, filled, cleared, came_up};
+ghost use Rattle.register.specs.Registers.{bare, wrote, with_head, applied, put, removed, made as index_made, went_up, turned, went_down, filled, cleared, came_up};
 ghost use Rattle.register.specs.Held.{register_of, record_of, can_do, Applied, Replayed};
 
 use super::follow::follow_all;
@@ -77,7 +77,7 @@ impl Register {
 
     /// Makes an index.
     fn make(&mut self, index: Slot, column: Column, unique: bool) -> Result<(), Refusal>
-        ensures { Applied result (indexMade index.number column.number unique) (register_of self.old) (register_of self.new) }
+        ensures { Applied result (index_made index.number column.number unique) (register_of self.old) (register_of self.new) }
     {
         let slot = self.heads[index.number() as usize];
         if slot.is_some() {
