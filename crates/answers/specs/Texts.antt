@@ -1,5 +1,6 @@
 -- The text of answers.
-use Rattle.std.specs.Prelude.{ℕ, ◌+◌, cond, List, [], ◌∷◌, ◌++◌, vec_items, codes, decimal, ◌==◌}
+use Rattle.std.specs.Prelude.{ℕ, ◌+◌, cond, List, [], ◌∷◌, ◌++◌, vec_items, codes, decimal, Option, Some, ◌==◌}
+use Rattle.std.specs.Fmt.{◌++?◌}
 use Rattle.stage.specs.Stages.{ranks}
 use Rattle.change.specs.Heads.{number_of}
 use Rattle.change.specs.declared.kinds.Refusal.{Refusal}
@@ -11,6 +12,11 @@ use Rattle.service.specs.declared.kinds.Answer.TheVariants.{Done, Row, Keys, Len
 abbrev pub spaced : List ℕ → List ℕ
 spaced [] = []
 spaced (n ∷ ns) = (32 ∷ decimal n) ++ spaced ns
+
+-- texts with a space before each, where each is known
+abbrev pub spaced_texts : {X : Type 0} → (X → Option (List ℕ)) → List X → Option (List ℕ)
+spaced_texts text [] = Some []
+spaced_texts text (x ∷ xs) = (Some (32 ∷ []) ++? text x) ++? spaced_texts text xs
 
 -- a space and I=S, for a stage other than 0
 abbrev pub stage_word : (index stage : ℕ) → List ℕ

@@ -1,9 +1,7 @@
 -- Many keys at once.
-use Rattle.std.proofs.Common.{◌≡◌, ℕ, zero, suc, ◌+◌, ◌-◌, ◌<◌, ◌≤◌, min, Bool, true, false, cond, None, Option, sym, refl, ap, ◌∙◌, ⊎_elim, suc-add, zero-add, arith}
-use mathlib.Core.Path.{fun_ext}
-use Rattle.std.proofs.lemmas.Bool.{cases_lt}
-use Rattle.change.specs.Protocol.{Head, there, up, down, stage_of, turned_down, onward, may_fill, may_clear}
-use Rattle.change.specs.Index.{About, must_turn, backfilled, cleaned_up}
+use Rattle.std.proofs.Common.{◌≡◌, ℕ, zero, suc, ◌+◌, ◌-◌, ◌<◌, ◌≤◌, Bool, true, false, cond, None, Option, sym, refl, ap, ◌∙◌, ◌⊎◌, inl, inr, suc-add, zero-add, arith}
+use Rattle.change.specs.Protocol.{Head, stage_of, turned_down, onward, may_fill, may_clear}
+use Rattle.change.specs.Index.{About}
 use Rattle.change.specs.OneChange.{State, alone, Step, fills, clears, why_not, after}
 use Rattle.change.specs.Batches.{Work, repeated, filled, cleared, FilledInParts, ClearedInParts, work_of, IsSteps, FilledBySteps, ClearedBySteps}
 
@@ -16,20 +14,7 @@ module _ {X : Type 0} (may : X → Bool) (step : X → X) where
   in_parts : (m n : ℕ) (x : X) → repeated may step (m + n) x ≡ repeated may step n (repeated may step m x)
   unfolding repeated
   in_parts zero n x = rw zero-add
-  in_parts (suc m) n x = rw (suc-add m n) (go (may x) refl (in_parts m n (step x)))
-    where
-      go : (b : Bool) → may x ≡ b → repeated may step (m + n) (step x) ≡ repeated may step n (repeated may step m (step x)) →
-          cond b (repeated may step (m + n) (step x)) x ≡ repeated may step n (cond b (repeated may step m (step x)) x)
-      go true e ih = ih
-      go false e ih = sym (stays n x e)
-
-  -- one turn more, and no more turns
-  pub goes_on : (n : ℕ) (x y : X) → repeated may step n x ≡ y → may y ≡ true → repeated may step (n + 1) x ≡ step y
-  unfolding repeated
-  goes_on n x y e m = in_parts n 1 x ∙ ap (repeated may step 1) e ∙ rw m
-
-  pub stops_at : (n m : ℕ) (x y : X) → repeated may step n x ≡ y → may y ≡ false → repeated may step (n + m) x ≡ y
-  stops_at n m x y e f = in_parts n m x ∙ ap (repeated may step m) e ∙ stays m y f
+  in_parts (suc m) n x = let ih = in_parts m n (step x) in let e = stays n x in rw (suc-add m n) (grind arith)
 
 pub filled_in_parts : FilledInParts
 filled_in_parts keys rows = in_parts _ _
@@ -66,49 +51,23 @@ cleared_by_steps keys n w e =
     by-steps keys clears w.rows (λ x. may_clear keys x.head) cleared
     (λ u r f m. (grind arith, r, rw (same_stage false u.head) f, refl)) n w refl e
 
--- work over keys from `from` on, so far over those below k
-module _ {X : Type 0} (may : X → Bool) (step : X → X) (x : X) (from : ℕ) where
-  pub first : repeated may step (from - from) x ≡ x
+-- a turn of a loop that makes a step n times: some are made, and the rest leads from y to where all lead from x
+module _ {X : Type 0} (may : X → Bool) (step : X → X) (n i : ℕ) (x y : X) (so-far : repeated may step (n - i) y ≡ repeated may step n x) where
+  pub one_more : (z : X) → i < n → may y ≡ true → z ≡ step y → repeated may step (n - (i + 1)) z ≡ repeated may step n x
   unfolding repeated
-  first = let z : from - from ≡ 0 = omega arith in rw z
+  one_more z l m e = let left : n - i ≡ suc (n - (i + 1)) = omega arith in rw e (rw (left, m) at so-far)
 
-  -- one key more
-  pub next : (k : ℕ) (y z : X) → from ≤ k → may y ≡ true → step y ≡ z → repeated may step (k - from) x ≡ y → repeated may step (k + 1 - from) x ≡ z
-  next k y z l m e i = let n : k + 1 - from ≡ (k - from) + 1 = omega arith in rw n (goes_on may step (k - from) x y i m ∙ e)
+  pub no_more : (n ≤ i) ⊎ (may y ≡ false) → y ≡ repeated may step n x
+  unfolding repeated
+  no_more (inl l) = let none : n - i ≡ 0 = omega arith in (rw none at so-far)
+  no_more (inr m) = sym (stays may step (n - i) y m) ∙ so-far
 
-  -- left at a key after which there is nothing to do
-  pub leaves : (k count : ℕ) (y z : X) → from ≤ k → k < from + count → may y ≡ true → step y ≡ z → may z ≡ false → repeated may step (k - from) x ≡ y → repeated may step count x ≡ z
-  leaves k count y z l b m e f i =
-      let n : count ≡ ((k - from) + 1) + (count - (k + 1 - from)) = omega arith in
-      ap (λ c. repeated may step c x) n ∙ stops_at may step ((k - from) + 1) (count - (k + 1 - from)) x z (goes_on may step (k - from) x y i m ∙ e) f
-
-  -- gone over all keys that were asked for, or that there are
-  pub over : (keys count k : ℕ) (y : X) → from ≤ keys → k ≡ min (from + count) keys → (k ≡ keys → may y ≡ false) → repeated may step (k - from) x ≡ y → repeated may step count x ≡ y
-  over keys count k y l e f i =
-      ⊎_elim
-      (λ a. let n : count ≡ k - from = omega arith in ap (λ c. repeated may step c x) n ∙ i)
-      (λ b. let n : count ≡ (k - from) + (count - (k - from)) = omega arith in
-      ap (λ c. repeated may step c x) n ∙ stops_at may step (k - from) (count - (k - from)) x y i (f (omega arith)))
-      (cases_lt (from + count) keys)
-
--- one key of cleanup, and of backfill, by what each key's entry is afterwards
-pub clear_next : (a : About) (k : ℕ) (es fs : ℕ → Option ℕ) → ((j : ℕ) → fs j ≡ cleaned_up k es j) → cleared (record { head = there a down 1 k; entries = es }) ≡ record { head = there a down 1 (k + 1); entries = fs }
-clear_next a k es fs f =
-    let with : (ℕ → Option ℕ) → Work = λ g. record { head = there a down 1 (k + 1); entries = g } in
-    ap with (fun_ext (λ j. sym (f j)))
-
-module _ (keys : ℕ) (rows : ℕ → Option ℕ) (a : About) (k : ℕ) (es fs : ℕ → Option ℕ) where
-  pub fill_next : must_turn keys rows es (there a up 2 k) ≡ false → ((j : ℕ) → fs j ≡ backfilled k rows es j) → filled keys rows (record { head = there a up 2 k; entries = es }) ≡ record { head = there a up 2 (k + 1); entries = fs }
-  fill_next e f =
-      let with : Bool → Work = λ b. record { head = cond b (there a down 2 0) (there a up 2 (k + 1)); entries = λ j. cond b (es j) (backfilled k rows es j) } in
-      let to : (ℕ → Option ℕ) → Work = λ g. record { head = there a up 2 (k + 1); entries = g } in
-      ap with e ∙ ap to (fun_ext (λ j. sym (f j)))
-
-  pub fill_turns : must_turn keys rows es (there a up 2 k) ≡ true → ((j : ℕ) → fs j ≡ es j) → filled keys rows (record { head = there a up 2 k; entries = es }) ≡ record { head = there a down 2 0; entries = fs }
-  fill_turns e f =
-      let with : Bool → Work = λ b. record { head = cond b (there a down 2 0) (there a up 2 (k + 1)); entries = λ j. cond b (es j) (backfilled k rows es j) } in
-      let to : (ℕ → Option ℕ) → Work = λ g. record { head = there a down 2 0; entries = g } in
-      ap with e ∙ ap to (fun_ext (λ j. sym (f j)))
+-- a step by what it leaves as it is may as well be by what is there at first
+pub by-first : {X C : Type 0} (may : X → Bool) (of : X → C) (step : C → X → X) → ((c : C) (x : X) → of (step c x) ≡ of x) → (n : ℕ) (x : X) (c : C) → of x ≡ c
+    → repeated may (λ x. step (of x) x) n x ≡ repeated may (step c) n x
+unfolding repeated
+by-first may of step keeps zero x c e = refl
+by-first may of step keeps (suc n) x c e = rw e (let ih = by-first may of step keeps n (step c x) c (keeps c x ∙ e) in rw ih)
 
 -- work of one key, where it may be done
 pub one_turn : {X : Type 0} (may : X → Bool) (step : X → X) (x y : X) → may x ≡ true → y ≡ repeated may step 1 x → y ≡ step x

@@ -4,7 +4,7 @@ use borrow.Author.Tests.{clash}
 use Rattle.stage.specs.Stages.{value_taken}
 use Rattle.change.specs.Protocol.{Way, up, down, there, stage_of}
 use Rattle.change.specs.Index.{About, unique_of, backfilled, cleaned_up, must_turn, NoOrphan}
-use Rattle.change.specs.OneChange.{State, Step, writes, joins, leaves, made, goes_up, turns, goes_down, fills, clears, why_not, with_head, with_holders, after, after_all}
+use Rattle.change.specs.OneChange.{State, Step, leaves, goes_up, turns, goes_down, fills, clears, why_not, with_head, with_holders, after, after_all}
 use Rattle.change.specs.Promises.{serves, CanCome, Done, Undone, Twice}
 use Rattle.change.proofs.IndexKind.{other_row}
 use Rattle.change.proofs.Steps.{Fine, fill_either, step_fine, steps_fine}
@@ -20,15 +20,7 @@ taken_twice keys d rows es u own l e = go (rows d) refl (grind arith)
 
 module _ (keys : ℕ) where
   rows_stay : (s : Step) (w : State) → serves s ≡ true → (after keys s w).rows ≡ w.rows
-  rows_stay (writes s k r) w e = absurd (clash e)
-  rows_stay joins w e = refl
-  rows_stay (leaves n) w e = refl
-  rows_stay (made a) w e = refl
-  rows_stay goes_up w e = refl
-  rows_stay turns w e = refl
-  rows_stay goes_down w e = refl
-  rows_stay fills w e = refl
-  rows_stay clears w e = refl
+  rows_stay s w e = grind arith
 
   module _ (P : State → Type 0) where
     -- one step first

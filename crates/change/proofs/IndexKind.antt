@@ -1,5 +1,5 @@
 -- An index is a kind of change.
-use Rattle.std.proofs.Common.{◌≡◌, ℕ, zero, suc, ◌+◌, ◌<◌, ◌≤◌, Bool, true, false, cond, Some, None, Option, refl, arith}
+use Rattle.std.proofs.Common.{◌≡◌, ℕ, zero, suc, ◌+◌, ◌<◌, ◌≤◌, Bool, true, false, cond, ◌||◌, Some, None, Option, refl, arith}
 use Rattle.keyset.specs.Sets.{any_below}
 use Rattle.table.specs.Update.{update, by_other, taken_by_other}
 use Rattle.stage.specs.Stages.{puts_in, entry_after}
@@ -14,11 +14,12 @@ none_below f (suc n) e j l = let ih : any_below f n ≡ false → j < n → f j 
 pub some_below : (f : ℕ → Bool) (n : ℕ) → any_below f n ≡ true → (j : ℕ) × (j < n) × (f j ≡ true)
 unfolding any_below
 some_below f zero e = absurd (grind arith)
-some_below f (suc n) e = go (any_below f n) refl (some_below f n)
-  where
-    go : (b : Bool) → any_below f n ≡ b → (any_below f n ≡ true → (j : ℕ) × (j < n) × (f j ≡ true)) → (j : ℕ) × (j < suc n) × (f j ≡ true)
-    go true b ih = let h = ih b in (h.0, omega arith, h.2)
-    go false b ih = (n, omega arith, grind arith)
+some_below f (suc n) e =
+    elim (any_below f n) as (λ b. b || f n ≡ true → (b ≡ true → (j : ℕ) × (j < n) × (f j ≡ true)) → (j : ℕ) × (j < suc n) × (f j ≡ true)) [
+      | true ↦ λ _ ih. let (j, l, i) = ih refl in (j, omega arith, i)
+      | false ↦ λ here _. (n, omega arith, here)
+    ]
+    e (some_below f n)
 
 -- a value that is taken is another row's
 pub other_row : (keys k v : ℕ) (rows es : ℕ → Option ℕ) → NoOrphan rows es → taken_by_other keys es v k ≡ true → (j : ℕ) × (j < keys) × (j ≡ k → ⊥) × (rows j ≡ Some v)
@@ -85,6 +86,9 @@ cleared keys a k x y clears l b (own, one) none = (
 pub empty : (keys : ℕ) (x : Part) → Always keys x → NoneTo keys x → (k : ℕ) → x.entries k ≡ None
 empty keys x b none k = let p : k < keys → x.entries k ≡ None = none k in let q = b k in grind arith
 
+pub made : (keys : ℕ) (a : About) (x : Part) → Always keys x → NoneTo keys x → Base a x
+made keys a x b none = let z = empty keys x b none in ((λ k v e. let o = z k in grind arith), (λ u k j v p q. let o = z k in grind arith))
+
 abbrev pub kind : (keys : ℕ) → Kind keys About Part
 kind keys = record {
   Always = Always keys;
@@ -96,7 +100,7 @@ kind keys = record {
   Clears = Clears;
   none_to_0 = λ x k l. absurd (omega arith);
   all_to_0 = λ a x k l. absurd (omega arith);
-  made = λ a x b none. ((λ k v e. let z = empty keys x b none k in grind arith), (λ u k j v p q. let z = empty keys x b none k in grind arith));
+  made = made keys;
   written_always = written_always keys;
   written_none = written_none keys;
   written_all = written_all keys;

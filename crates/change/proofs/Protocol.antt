@@ -1,6 +1,5 @@
 -- The stage protocol, proved once for any kind of change.
-use Rattle.std.proofs.Common.{◌≡◌, ℕ, zero, suc, ◌+◌, ◌<◌, ◌≤◌, Bool, true, ◌⊎◌, None, arith}
-use mathlib.Core.Path.{subst⁻¹}
+use Rattle.std.proofs.Common.{◌≡◌, ℕ, ◌+◌, ◌<◌, ◌≤◌, Bool, true, ◌⊎◌, None, arith}
 use Rattle.change.specs.Protocol.{Way, up, down, Head, gone, there, stage_of, done_of, raised, turned_down, lowered, onward, why_not_make, why_not_up, why_not_turn, why_not_down, why_not_fill, why_not_clear, Near, AllAt, Kind, Sound}
 
 -- two holders are at most one stage apart
@@ -14,42 +13,30 @@ fill_turn keys alone h e = grind arith
 module _ {keys : ℕ} {A X : Type 0} (K : Kind keys A X) where
   -- whoever comes to hold a stage holds the change's own
   pub held : (h : Head A) {hs fs : ℕ → Type 0} {x : X} → ((s : ℕ) → fs s → (s ≡ stage_of h) ⊎ hs s) → Sound K h hs x → Sound K h fs x
-  held gone f g = grind arith
-  held (there a up s d) f g = grind arith
-  held (there a down s d) f g = grind arith
+  held h f g = grind arith
 
   module _ {hs : ℕ → Type 0} {x : X} where
     pub gone_none : (h : Head A) → why_not_make h ≡ None → Sound K h hs x → K.NoneTo keys x
-    gone_none gone e g = g.by_head
-    gone_none (there a w s d) e g = absurd (grind arith)
+    gone_none h e g = grind arith
 
     -- in stage 3, or with somebody in it, all of it is there
     pub full : (a : A) (w : Way) (s d : ℕ) → hs 3 ⊎ (s ≡ 3) → Sound K (there a w s d) hs x → K.AllTo a keys x
-    full a up s d three g = grind arith
-    full a down s d three g = grind arith
+    full a w s d three g = grind arith
 
     -- what is seen once the change is there may be another part, with nothing of it there
     pub make : (h : Head A) (a : A) (y : X) → why_not_make h ≡ None → K.Always y → K.NoneTo keys y → Sound K h hs x → Sound K (there a up 0 0) hs y
-    make gone a y e always none g = grind (arith, K.made a y)
-    make (there b w s d) a y e always none g = absurd (grind arith)
+    make h a y e always none g = grind (arith, K.made a y)
 
     -- a step that is not refused, where all hold the change's own stage if the test says so
     module _ (alone : Bool) where
       pub raise : (h : Head A) → why_not_up keys alone h ≡ None → (alone ≡ true → AllAt (stage_of h) hs) → Sound K h hs x → Sound K (raised h) hs x
-      raise gone e all g = absurd (grind arith)
-      raise (there a up s d) e all g = grind (arith, K.all_to_0 a x)
-      raise (there a down s d) e all g = absurd (grind arith)
+      raise h e all g = grind (arith, K.all_to_0)
 
       pub turn : (h : Head A) → why_not_turn alone h ≡ None → (alone ≡ true → AllAt (stage_of h) hs) → Sound K h hs x → Sound K (turned_down h) hs x
-      turn gone e all g = absurd (grind arith)
-      turn (there a up s d) e all g = grind (arith, K.none_to_0 x)
-      turn (there a down s d) e all g = absurd (grind arith)
+      turn h e all g = grind (arith, K.none_to_0)
 
       pub lower : (h : Head A) → why_not_down keys alone h ≡ None → (alone ≡ true → AllAt (stage_of h) hs) → Sound K h hs x → Sound K (lowered h) hs x
-      lower gone e all g = absurd (grind arith)
-      lower (there a up s d) e all g = absurd (grind arith)
-      lower (there a down zero d) e all g = grind arith
-      lower (there a down (suc s) d) e all g = grind (arith, K.none_to_0 x)
+      lower h e all g = grind (arith, K.none_to_0)
 
       module _ (y : X) where
         pub fill : (h : Head A) → why_not_fill keys alone h ≡ None → (alone ≡ true → AllAt (stage_of h) hs) → K.Fills h (done_of h) x y → Sound K h hs x → Sound K (onward h) hs y
@@ -76,19 +63,12 @@ module _ {keys : ℕ} {A X : Type 0} (K : Kind keys A X) where
       write gone s i f g =
           let low : s ≤ 1 = let z = g.near s i in omega arith in
           record { always = K.written_always gone s x y f g.always; near = g.near; by_head = K.written_none gone s x y f low keys g.by_head }
-      write (there a up t d) s i f g =
+      write (there a w t d) s i f g =
           let n = g.near s i in
-          let b = K.written_base a up t d s x y f g.always (λ z. g.by_head.4.0 (omega arith)) g.by_head.2 in
-          let none = K.written_none (there a up t d) s x y f in
-          let all = K.written_all a up t d s x y f in
-          let first : d ≡ 0 → K.AllTo a d y = λ z. subst⁻¹ (λ n. K.AllTo a n y) z (K.all_to_0 a y) in
-          let always = K.written_always (there a up t d) s x y f g.always in
-          grind arith
-      write (there a down t d) s i f g =
-          let n = g.near s i in
-          let b = K.written_base a down t d s x y f g.always (λ z. g.by_head.4.0 (omega arith)) g.by_head.2 in
-          let none = K.written_none (there a down t d) s x y f in
-          let all = K.written_all a down t d s x y f in
-          let first : d ≡ 0 → K.NoneTo d y = λ z. subst⁻¹ (λ n. K.NoneTo n y) z (K.none_to_0 y) in
-          let always = K.written_always (there a down t d) s x y f g.always in
+          let zero-none : s ≡ 0 → K.NoneTo keys x = λ z. grind arith in
+          let b = K.written_base a w t d s x y f g.always zero-none g.by_head.2 in
+          let none = K.written_none (there a w t d) s x y f in
+          let all = K.written_all a w t d s x y f in
+          let first : d ≡ 0 → K.AllTo a d y × K.NoneTo d y = λ z. rw z (K.all_to_0 a y, K.none_to_0 y) in
+          let always = K.written_always (there a w t d) s x y f g.always in
           grind arith

@@ -1,6 +1,7 @@
 -- A head of the code as the stage protocol sees it, and what a step of it answers.
 use Rattle.std.specs.Prelude.{◌≡◌, ℕ, Bool, Some, None, Ok, Err, Option, Result}
-use Rattle.table.specs.declared.row.Column.{Column}
+use Rattle.keyset.specs.declared.number.Number.{Number}
+use Rattle.table.specs.declared.row.OfColumn.{OfColumn}
 use Rattle.stage.specs.Stages.{rank}
 use Rattle.change.specs.declared.kinds.Way.{Way}
 use Rattle.change.specs.declared.kinds.Way.TheVariants.{Up, Down}
@@ -12,7 +13,7 @@ use Rattle.change.specs.Index.{About}
 use Rattle.change.specs.Batches.{Work}
 
 -- what an index is about
-abbrev pub about_of : Column → Bool → About
+abbrev pub about_of : Number OfColumn 8 → Bool → About
 about_of c u = record { column = c.number; unique = u }
 
 -- a head by its way

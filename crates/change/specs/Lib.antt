@@ -5,3 +5,4 @@ pub mod Promises
 pub mod Examples
 pub mod Batches
 pub mod Heads
+pub mod OverKeys

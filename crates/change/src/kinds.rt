@@ -4,7 +4,7 @@ use stage::Stage;
 use table::Column;
 
 /// Which way a change goes, and the stage that it has come to.
-#[derive(Clone, Copy)]
+#[derive(Clone, Copy, Debug, PartialEq, Eq)]
 pub enum Way {
     Up(Stage),
     Down(Stage),
@@ -24,7 +24,7 @@ pub struct Index {
 }
 
 /// Why a call is refused.
-#[derive(Clone, Copy)]
+#[derive(Clone, Copy, Debug, PartialEq, Eq)]
 pub enum Refusal {
     /// A key, column, index, office or stage that there is none of, or a call that cannot be read.
     OutOfRange,

@@ -1,6 +1,7 @@
 //! A file that is read before it is written.
 
-ghost use Rattle.std.specs.Prelude.{◌≡◌, ◌≤◌, false, [], length, IfOk};
+ghost use Rattle.std.specs.Prelude.{◌≡◌, ◌≤◌, [], length, IfOk};
+ghost use Rattle.disk.specs.declared.file.State.TheVariants.{Synced};
 
 use super::file::Disk;
 use std::fs::{File, OpenOptions};
@@ -27,9 +28,11 @@ fn sync_folder(rt: &HostRuntime, path: &str) -> io::Result<()> {
 impl Opened {
     /// Opens the file, or makes it.
     pub fn open(rt: &HostRuntime, path: &str) -> io::Result<Opened> {
-        let mut how = OpenOptions::new();
-        how.read(true).append(true).create(true);
-        let file = how.open(rt, path)?;
+        let file = OpenOptions::new()
+            .read(true)
+            .append(true)
+            .create(true)
+            .open(rt, path)?;
         sync_folder(rt, path)?;
         Ok(Opened { file })
     }
@@ -49,9 +52,8 @@ impl Opened {
 
     /// The journal that goes on behind what the file has: nothing is written to it yet.
     pub fn journal(self) -> Disk
-        ensures { (result.durable.bytes ≡ []) × (result.pending.bytes ≡ []) × (result.broken ≡ false) }
+        ensures { (result.durable.bytes ≡ []) × (result.pending.bytes ≡ []) × (result.state ≡ Synced) }
     {
-        let Opened { file } = self;
-        Disk::new(file)
+        Disk::new(self.file)
     }
 }

@@ -6,6 +6,7 @@ ghost use Rattle.std.specs.Borrow.{ftrue};
 use std::marker::Model;
 
 /// Bytes that are only spoken of.
+#[derive(Drop)]
 pub(super) struct Shadow {
     ghost bytes: { List ℕ },
 }
@@ -27,11 +28,5 @@ impl Shadow {
         ensures { result.bytes ≡ front.now.bytes ++ back.now.bytes }
     {
         Shadow {}
-    }
-}
-
-impl Drop for Shadow {
-    fn drop(self) {
-        let Shadow {} = self;
     }
 }

@@ -1,11 +1,11 @@
 -- Records by their bytes.
-use Rattle.std.proofs.Common.{◌≡◌, ℕ, ◌-◌, ◌≤◌, Bool, true, false, List, ◌∷◌, ◌++◌, length, drop, sym, refl, ap, ◌∙◌, subst, ⊎_elim, append_assoc, arith, length-append}
+use Rattle.std.proofs.Common.{◌≡◌, ℕ, ◌-◌, ◌≤◌, Bool, true, false, List, ◌∷◌, ◌++◌, length, drop, Ok, Err, sym, refl, ap, ◌∙◌, subst, ⊎_elim, append_assoc, arith, length-append}
 use Rattle.std.proofs.lemmas.List.{drop_at, length-drop}
 use Rattle.std.proofs.lemmas.Bool.Decides.{nat_tests}
 use Rattle.table.specs.declared.row.Row.{Row}
 use Rattle.register.specs.Registers.{Record, put, removed, made, went_up, turned, went_down, filled, cleared, came_up}
 use Rattle.register.specs.Held.{record_of}
-use Rattle.journal.specs.declared.kinds.Reading.TheVariants.{Whole, Part, Bad}
+use Rattle.journal.specs.declared.error.Unread.TheVariants.{Part, Bad}
 use Rattle.journal.specs.Bytes.{two, fours, stage_bytes, flag, kind_of, body_of, bytes_of, Writable, is_part}
 use Rattle.journal.specs.Laws.{NoTwo, ReadBack, UnknownRefused}
 use Rattle.journal.proofs.Numbers.{unique_two, unique_columns}
@@ -86,7 +86,7 @@ no_two x y r s v w e =
     same_bodies x y r s v w (subst (λ n. Shape n y) k (shape y)) b
 
 pub read_back : ReadBack
-read_back x before rest (Whole y e) w (v, f, l) =
+read_back x before rest (Ok (y, e)) w (v, f, l) =
     let bs = before ++ (bytes_of x ++ rest) in
     let d : drop (length before) bs ≡ bytes_of x ++ rest = drop_at before (bytes_of x ++ rest) (length before) refl in
     let (a, b) = no_two (record_of y) x (drop e bs) rest v w (sym f ∙ d) in
@@ -94,12 +94,11 @@ read_back x before rest (Whole y e) w (v, f, l) =
     let n = length-append (bytes_of x) rest in
     let o : length bs - e ≡ length rest = sym (length-drop e bs) ∙ ap length b in
     (y, e, refl, a, omega arith)
-read_back x before rest Part w h =
+read_back x before rest (Err Part) w h =
     let d : drop (length before) (before ++ (bytes_of x ++ rest)) ≡ bytes_of x ++ rest = drop_at before (bytes_of x ++ rest) (length before) refl in
     let z : true ≡ false = sym h ∙ ap is_part d ∙ whole_no_part x rest w in
-    let y : ◌≡◌ {A = ℕ} 0 1 = cc in
-    absurd (omega arith)
-read_back x before rest Bad w (p, none) = absurd (none x rest w (drop_at before (bytes_of x ++ rest) (length before) refl))
+    cc
+read_back x before rest (Err Bad) w (p, none) = absurd (none x rest w (drop_at before (bytes_of x ++ rest) (length before) refl))
 
 kinds : (x : Record) → (1 ≤ kind_of x) × (kind_of x ≤ 9)
 kinds (put k n ss) = (omega arith, omega arith)

@@ -1,27 +1,15 @@
 -- How long records are, and where there is only a part of one.
-use Rattle.std.proofs.Common.{◌≡◌, ℕ, suc, ◌+◌, ◌-◌, ◌*◌, ◌<◌, ◌≤◌, true, false, cond, eqb, ltb, leb, List, [], ◌∷◌, ◌++◌, length, get_or, drop, Some, None, Option, sym, refl, ap, ◌∙◌, append_assoc, arith, length-append, le-ltb}
-use Rattle.std.proofs.lemmas.List.{drop_all, drop_more, get_or-drop, length-drop, get_or_at}
+use Rattle.std.proofs.Common.{◌≡◌, ℕ, zero, suc, ◌+◌, ◌-◌, ◌*◌, ◌<◌, ◌≤◌, ◌≢◌, true, false, cond, eqb, ltb, leb, List, [], ◌∷◌, ◌++◌, length, get_or, take, drop, Some, None, Option, sym, refl, ap, ap₂, ◌∙◌, append_assoc, arith, length-append, le-ltb, lt-ltb}
+use Rattle.std.proofs.lemmas.List.{take_at, get_or_at, get_or-drop, drop-drop, take-append-drop}
 use Rattle.std.proofs.lemmas.Bool.Decides.{nat_tests}
 use Rattle.register.specs.Registers.{Record, put, removed, made, went_up, turned, went_down, filled, cleared, came_up, are_stages}
 use Rattle.journal.specs.Bytes.{fours, known, pairs, stage_bytes, bytes_of, Writable, size_with, size_by, size_of, below, is_part}
-use Rattle.journal.specs.Reads.{size_at, Refused}
+use Rattle.journal.specs.Reads.{Refused}
 
-sized : (l : List ℕ) → 0 < length l → size_of l ≡ size_by (get_or l 0 0) (length l) (get_or l 35 0) (get_or l 3 0)
-sized [] h = absurd (omega arith)
-sized (k ∷ l) h = refl
-
-pub size_at_lem : (bs : List ℕ) (at : ℕ) → at < length bs → size_of (drop at bs) ≡ size_at bs at
-size_at_lem bs at h =
-    let n : length (drop at bs) ≡ length bs - at = length-drop at bs in
-    let k : get_or (drop at bs) 0 0 ≡ get_or bs at 0 = get_or-drop at bs 0 0 ∙ ap (λ (k : ℕ). get_or bs k 0) (omega arith) in
-    sized (drop at bs) (omega arith) ∙ (λ j. size_by (k j) (n j) (get_or-drop at bs 35 0 j) (get_or-drop at bs 3 0 j))
-
-pub part_past : (bs : List ℕ) (at : ℕ) → length bs ≤ at → is_part (drop at bs) ≡ true
-part_past bs at h = ap is_part (drop_all at bs h)
-
--- whether there is only a part, by the size
-pub part_at : (bs : List ℕ) (at : ℕ) (r : Option ℕ) → at < length bs → r ≡ size_at bs at → is_part (drop at bs) ≡ below (length bs - at) r
-part_at bs at r h e = (λ j. below (length-drop at bs j) (size_at_lem bs at h j)) ∙ ap (below (length bs - at)) (sym e)
+-- the size by what stands at three places
+pub size_read : (bs : List ℕ) (k : ℕ) (r : Option ℕ) → 0 < length bs → k ≡ get_or bs 0 0 → r ≡ size_by k (length bs) (get_or bs 35 0) (get_or bs 3 0) → size_of bs ≡ r
+size_read [] k r h e f = absurd (omega arith)
+size_read (b ∷ bs) k r h e f = ap (λ (n : ℕ). size_by n (length (b ∷ bs)) (get_or (b ∷ bs) 35 0) (get_or (b ∷ bs) 3 0)) (sym e) ∙ sym f
 
 pub length_fours : (cs : List ℕ) → length (fours cs) ≡ 4 * length cs
 length_fours [] = refl
@@ -71,21 +59,49 @@ size_is (filled i k) rest w = refl
 size_is (cleared i k) rest w = refl
 size_is came_up rest w = refl
 
-pub size_none : (bs : List ℕ) (at : ℕ) → at < length bs → None ≡ size_at bs at → Refused (drop at bs)
-size_none bs at h e = (
-  part_at bs at None h e,
-  λ y rest w f.
-      let g : ◌≡◌ {A = Option ℕ} None (Some (length (bytes_of y))) = e ∙ sym (size_at_lem bs at h) ∙ ap size_of f ∙ size_is y rest w in
-      let z : ◌≡◌ {A = ℕ} 0 1 = cc in
-      omega arith,
-)
-
 -- a record and what is behind it is no part of one
 pub whole_no_part : (y : Record) (rest : List ℕ) → Writable y → is_part (bytes_of y ++ rest) ≡ false
 whole_no_part y rest w = ap (below (length (bytes_of y ++ rest))) (size_is y rest w) ∙ le-ltb (length (bytes_of y ++ rest)) (length (bytes_of y)) (let l = length-append (bytes_of y) rest in omega arith)
 
-pub came_stands : (bs : List ℕ) (at n : ℕ) → at < length bs → get_or bs at 0 ≡ 9 → size_at bs at ≡ Some n → drop at bs ≡ 9 ∷ drop (at + n) bs
-came_stands bs at n h e f =
-    let g : size_at bs at ≡ Some 1 = ap (λ (k : ℕ). size_by k (length bs - at) (get_or bs (at + 35) 0) (get_or bs (at + 3) 0)) e in
-    let one : 1 ≡ n = cc in
-    drop_more bs at 0 h ∙ (λ j. e j ∷ drop (at + one j) bs)
+-- what begins with a byte of no kind
+pub size_none : (bs : List ℕ) → size_of bs ≡ None → Refused bs
+size_none bs e = (
+  ap (below (length bs)) e,
+  λ y rest w f.
+      let g : ◌≡◌ {A = Option ℕ} None (Some (length (bytes_of y))) = sym e ∙ ap size_of f ∙ size_is y rest w in
+      cc,
+)
+
+-- what has the size of a record is none where it is not the bytes of one
+pub size_only : (bs : List ℕ) (n : ℕ) → size_of bs ≡ Some n → n ≤ length bs → ((y : Record) → Writable y → take n bs ≢ bytes_of y) → Refused bs
+size_only bs n e l none = (
+  ap (below (length bs)) e ∙ le-ltb (length bs) n l,
+  λ y rest w f.
+      let g : ◌≡◌ {A = Option ℕ} (Some n) (Some (length (bytes_of y))) = sym e ∙ ap size_of f ∙ size_is y rest w in
+      let m : n ≡ length (bytes_of y) = cc in
+      none y w (ap (take n) f ∙ take_at (bytes_of y) rest n (sym m)),
+)
+
+-- fewer bytes than a record has
+pub size_more : (bs : List ℕ) (n : ℕ) → size_of bs ≡ Some n → length bs < n → is_part bs ≡ true
+size_more bs n e l = ap (below (length bs)) e ∙ lt-ltb (length bs) n l
+
+-- every record has a byte
+pub size_some : (bs : List ℕ) (n : ℕ) → size_of bs ≡ Some n → 1 ≤ n
+size_some [] n e = grind arith
+size_some (b ∷ bs) n e = grind (arith, nat_tests)
+
+-- the first byte, and those behind it
+pub front_read : (bs : List ℕ) (n k : ℕ) → 1 ≤ n → 0 < length bs → k ≡ get_or bs 0 0 → k ∷ take (n - 1) (drop 1 bs) ≡ take n bs
+front_read [] n k h l e = absurd (omega arith)
+front_read (b ∷ bs) zero k h l e = absurd (omega arith)
+front_read (b ∷ bs) (suc n) k h l e = let m : suc n - 1 ≡ n = omega arith in λ j. e j ∷ take (m j) bs
+
+-- the bytes from a place on
+module _ (bs : List ℕ) (at : ℕ) where
+  pub place_read : (k : ℕ) → k ≡ get_or bs at 0 → k ≡ get_or (drop at bs) 0 0
+  place_read k e = e ∙ sym (get_or-drop at bs 0 0 ∙ ap (λ (i : ℕ). get_or bs i 0) (omega arith))
+
+  -- what stands there, and what is behind it
+  pub stands_there : (n : ℕ) (x : List ℕ) → take n (drop at bs) ≡ x → drop at bs ≡ x ++ drop (at + n) bs
+  stands_there n x e = sym (take-append-drop n (drop at bs)) ∙ ap₂ (λ a b. a ++ b) e (drop-drop n at bs)

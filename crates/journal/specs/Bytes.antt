@@ -111,11 +111,6 @@ abbrev pub below : ℕ → Option ℕ → Bool
 below n None = false
 below n (Some m) = nat_lt n m
 
--- is a number no less than a size
-abbrev pub reaches : ℕ → Option ℕ → Bool
-reaches n None = false
-reaches n (Some m) = nat_le m n
-
 -- are these bytes fewer than the record has that they begin
 abbrev pub is_part : List ℕ → Bool
 is_part bs = below (length bs) (size_of bs)

@@ -1,10 +1,9 @@
 -- What holds of the bytes of records.
-use Rattle.std.specs.Prelude.{◌≡◌, ℕ, ◌+◌, ◌≤◌, true, ◌⊎◌, List, ◌∷◌, ◌++◌, length, take, drop}
+use Rattle.std.specs.Prelude.{◌≡◌, ℕ, ◌+◌, ◌≤◌, true, ◌⊎◌, List, ◌∷◌, ◌++◌, length, take, drop, Ok, Result}
 use Rattle.register.specs.Registers.{Record}
 use Rattle.register.specs.Held.{record_of}
 use Rattle.register.specs.declared.kinds.Record.{Record as Coded}
-use Rattle.journal.specs.declared.kinds.Reading.{Reading}
-use Rattle.journal.specs.declared.kinds.Reading.TheVariants.{Whole}
+use Rattle.journal.specs.declared.error.Unread.{Unread}
 use Rattle.journal.specs.Bytes.{bytes_of, all_bytes, Writable, AllWritable, is_part}
 use Rattle.journal.specs.Reads.{Reads, Refused}
 
@@ -14,8 +13,8 @@ NoTwo = (x y : Record) (r s : List ℕ) → Writable x → Writable y → bytes_
 
 -- where a record's bytes stand that record is read, and no other
 abbrev pub ReadBack : Type 0
-ReadBack = (x : Record) (before rest : List ℕ) (r : Reading) → Writable x → Reads (before ++ (bytes_of x ++ rest)) (length before) r
-    → (y : Coded) × (e : ℕ) × (r ≡ Whole y e) × (record_of y ≡ x) × (e ≡ length before + length (bytes_of x))
+ReadBack = (x : Record) (before rest : List ℕ) (r : Result (Coded × ℕ) Unread) → Writable x → Reads (before ++ (bytes_of x ++ rest)) (length before) r
+    → (y : Coded) × (e : ℕ) × (r ≡ Ok (y, e)) × (record_of y ≡ x) × (e ≡ length before + length (bytes_of x))
 
 -- wherever the bytes of records are cut off, whole records are left, and a part of the next one or nothing
 abbrev pub CutAnywhere : Type 0

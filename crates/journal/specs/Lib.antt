@@ -1,4 +1,5 @@
 pub mod Bytes
+pub mod Kinds
 pub mod Reads
 pub mod Writes
 pub mod Laws

@@ -1,158 +1,125 @@
 //! Records read of bytes.
 
-ghost use Rattle.std.specs.Prelude.{◌≡◌, ℕ, ◌+◌, ◌-◌, ◌*◌, ◌<◌, ◌≤◌, true, List, [], ◌∷◌, length, Some, slice_index};
+ghost use Rattle.std.specs.Prelude.{◌≡◌, ℕ, ◌-◌, ◌<◌, Bool, List, [], ◌∷◌, ◌++◌, length, slice_index};
 ghost use Rattle.std.specs.Option.{option_map};
 ghost use Rattle.register.specs.Held.{record_of};
-ghost use Rattle.journal.specs.Bytes.{bytes_of, Writable, size_with, reaches};
-ghost use Rattle.journal.specs.Reads.{Stands, Reads, size_at};
+ghost use Rattle.journal.specs.Bytes.{two, bytes_of, Writable, size_with, size_by};
+ghost use Rattle.journal.specs.Kinds.{first_byte};
+ghost use Rattle.journal.specs.Reads.{ReadOf, Reads};
 
-use super::fields::{key_at, row_at, stages_at};
-use super::kinds::Reading;
+use super::error::Unread;
+use super::fields::{key, row, stages};
+use super::kinds::Kind;
+use keyset::Key;
 use register::Record;
-use stage::Slot;
+use stage::{INDEXES, Slot};
 use table::Column;
 
 /// How long a record with stages is: so many bytes with their count, then two for each.
-fn size_with(bytes: &[u8], at: usize, least: usize) -> Option<usize>
-    requires { (at < length bytes.now) × (0 < least) }
-    ensures { result ≡ size_with least (length bytes.now - at) (slice_index bytes.now (at + (least - 1))) }
+fn size_with(bytes: &[u8], least: usize) -> Option<usize>
+    requires { 0 < least }
+    ensures { result ≡ size_with least (length bytes.now) (slice_index bytes.now (least - 1)) }
 {
-    if bytes.len() - at < least {
-        return Some(least);
-    }
-    let count = bytes[at + (least - 1)] as usize;
-    if count <= 8 {
-        Some(least + 2 * count)
-    } else {
-        None
+    match bytes.get(least - 1) {
+        None => Some(least),
+        Some(count) if usize::from(*count) <= INDEXES => Some(least + 2 * usize::from(*count)),
+        Some(_) => None,
     }
 }
 
-/// How long the record is that begins at a place, as far as its bytes tell; none begins with an unknown byte.
-fn size_at(bytes: &[u8], at: usize) -> Option<usize>
-    requires { at < length bytes.now }
-    ensures { result ≡ size_at bytes.now at }
+/// How long the record of a kind is that these bytes begin, as far as they tell.
+fn size(kind: Kind, bytes: &[u8]) -> Option<usize>
+    ensures { result ≡ size_by (first_byte kind) (length bytes.now) (slice_index bytes.now 35) (slice_index bytes.now 3) }
 {
-    match bytes[at] {
-        1 => size_with(bytes, at, 36),
-        2 => size_with(bytes, at, 4),
-        3 | 7 | 8 => Some(4),
-        4 | 5 | 6 => Some(2),
-        9 => Some(1),
-        _ => None,
+    match kind {
+        Kind::Put => size_with(bytes, 36),
+        Kind::Removed => size_with(bytes, 4),
+        Kind::Made | Kind::Filled | Kind::Cleared => Some(4),
+        Kind::WentUp | Kind::Turned | Kind::WentDown => Some(2),
+        Kind::CameUp => Some(1),
     }
 }
 
 /// A row that was put.
-fn put_at(bytes: &[u8], at: usize) -> Option<Record>
-    requires { (slice_index bytes.now at ≡ 1) × (at + 36 + 2 * slice_index bytes.now (at + 35) ≤ length bytes.now) }
-    ensures { Stands bytes_of Writable bytes.now at (at + 36 + 2 * slice_index bytes.now (at + 35)) (option_map record_of result) }
+fn put(body: &[u8]) -> Option<Record>
+    ensures { ReadOf bytes_of Writable (first_byte Kind.Put ∷ body.now) (option_map record_of result) }
 {
-    let Some(key) = key_at(bytes, at + 1) else {
-        return None;
-    };
-    let row = row_at(bytes, at + 3);
-    let Some(stages) = stages_at(bytes, at + 35) else {
-        return None;
-    };
-    Some(Record::Put(key, row, stages))
+    let (number, body) = body.split_first_chunk()?;
+    let (columns, body) = body.split_first_chunk()?;
+    Some(Record::Put(key(*number)?, row(columns), stages(body)?))
 }
 
 /// A row that was taken away.
-fn removed_at(bytes: &[u8], at: usize) -> Option<Record>
-    requires { (slice_index bytes.now at ≡ 2) × (at + 4 + 2 * slice_index bytes.now (at + 3) ≤ length bytes.now) }
-    ensures { Stands bytes_of Writable bytes.now at (at + 4 + 2 * slice_index bytes.now (at + 3)) (option_map record_of result) }
+fn removed(body: &[u8]) -> Option<Record>
+    ensures { ReadOf bytes_of Writable (first_byte Kind.Removed ∷ body.now) (option_map record_of result) }
 {
-    let Some(key) = key_at(bytes, at + 1) else {
-        return None;
-    };
-    let Some(stages) = stages_at(bytes, at + 3) else {
-        return None;
-    };
-    Some(Record::Removed(key, stages))
+    let (number, body) = body.split_first_chunk()?;
+    Some(Record::Removed(key(*number)?, stages(body)?))
 }
 
 /// An index that was made.
-fn made_at(bytes: &[u8], at: usize) -> Option<Record>
-    requires { (slice_index bytes.now at ≡ 3) × (at + 4 ≤ length bytes.now) }
-    ensures { Stands bytes_of Writable bytes.now at (at + 4) (option_map record_of result) }
+fn made(body: &[u8]) -> Option<Record>
+    ensures { ReadOf bytes_of Writable (first_byte Kind.Made ∷ body.now) (option_map record_of result) }
 {
-    let Some(index) = Slot::new(bytes[at + 1]) else {
+    let [index, column, unique @ 0..=1] = body else {
         return None;
     };
-    let Some(column) = Column::new(bytes[at + 2]) else {
+    let index = Slot::new(u16::from(*index))?;
+    let column = Column::new(u16::from(*column))?;
+    Some(Record::Made(index, column, *unique == 1))
+}
+
+/// The index of a change that went up, turned or went down.
+fn changed(body: &[u8]) -> Option<Slot>
+    ensures { ReadOf (λ i. i ∷ []) (λ i. i < 8) body.now (option_map (λ i. i.number) result) }
+{
+    let [index] = body else { return None };
+    Slot::new(u16::from(*index))
+}
+
+/// The index and the key that backfill or cleanup went over.
+fn worked(body: &[u8]) -> Option<(Slot, Key)>
+    ensures { ReadOf {X = ℕ × ℕ} (λ w. w.0 ∷ two w.1) (λ w. (w.0 < 8) × (w.1 < 4096)) body.now (option_map (λ w. (w.0.number, w.1.number)) result) }
+{
+    let [index, high, low] = body else {
         return None;
     };
-    match bytes[at + 3] {
-        0 => Some(Record::Made(index, column, false)),
-        1 => Some(Record::Made(index, column, true)),
-        _ => None,
+    Some((Slot::new(u16::from(*index))?, key([*high, *low])?))
+}
+
+/// The record of a kind that has this body.
+fn record(kind: Kind, body: &[u8]) -> Option<Record>
+    ensures { ReadOf bytes_of Writable (first_byte kind ∷ body.now) (option_map record_of result) }
+{
+    match kind {
+        Kind::Put => put(body),
+        Kind::Removed => removed(body),
+        Kind::Made => made(body),
+        Kind::WentUp => changed(body).map(Record::WentUp),
+        Kind::Turned => changed(body).map(Record::Turned),
+        Kind::WentDown => changed(body).map(Record::WentDown),
+        Kind::Filled => {
+            let (index, key) = worked(body)?;
+            Some(Record::Filled(index, key))
+        }
+        Kind::Cleared => {
+            let (index, key) = worked(body)?;
+            Some(Record::Cleared(index, key))
+        }
+        Kind::CameUp => body.is_empty().then_some(Record::CameUp),
     }
 }
 
-/// A change that went up, turned or went down.
-fn change_at(bytes: &[u8], at: usize) -> Option<Record>
-    requires { (4 ≤ slice_index bytes.now at) × ((slice_index bytes.now at ≤ 6) × (at + 2 ≤ length bytes.now)) }
-    ensures { Stands bytes_of Writable bytes.now at (at + 2) (option_map record_of result) }
-{
-    let Some(index) = Slot::new(bytes[at + 1]) else {
-        return None;
-    };
-    match bytes[at] {
-        4 => Some(Record::WentUp(index)),
-        5 => Some(Record::Turned(index)),
-        _ => Some(Record::WentDown(index)),
-    }
-}
-
-/// A key that backfill or cleanup went over.
-fn work_at(bytes: &[u8], at: usize) -> Option<Record>
-    requires { (7 ≤ slice_index bytes.now at) × ((slice_index bytes.now at ≤ 8) × (at + 4 ≤ length bytes.now)) }
-    ensures { Stands bytes_of Writable bytes.now at (at + 4) (option_map record_of result) }
-{
-    let Some(index) = Slot::new(bytes[at + 1]) else {
-        return None;
-    };
-    let Some(key) = key_at(bytes, at + 2) else {
-        return None;
-    };
-    match bytes[at] {
-        7 => Some(Record::Filled(index, key)),
-        _ => Some(Record::Cleared(index, key)),
-    }
-}
-
-/// The record that begins at a place, all of whose bytes are there.
-fn record_at(bytes: &[u8], at: usize) -> Option<Record>
-    requires { (at < length bytes.now) × (reaches (length bytes.now - at) (size_at bytes.now at) ≡ true) }
-    ensures { (n : ℕ) → size_at bytes.now at ≡ Some n → Stands bytes_of Writable bytes.now at (at + n) (option_map record_of result) }
-{
-    match bytes[at] {
-        1 => put_at(bytes, at),
-        2 => removed_at(bytes, at),
-        3 => made_at(bytes, at),
-        4 | 5 | 6 => change_at(bytes, at),
-        7 | 8 => work_at(bytes, at),
-        9 => Some(Record::CameUp),
-        _ => None,
-    }
-}
-
-/// Reads the record that begins at a place.
-pub fn decode(bytes: &[u8], at: usize) -> Reading
+// The place stays beside the bytes: where a record ends is told as a place among all of them.
+/// Reads the record that begins at a place, and says where it ends.
+pub fn decode(bytes: &[u8], at: usize) -> Result<(Record, usize), Unread>
     ensures { Reads bytes.now at result }
 {
-    if bytes.len() <= at {
-        return Reading::Part;
-    }
-    let Some(size) = size_at(bytes, at) else {
-        return Reading::Bad;
-    };
-    if bytes.len() - at < size {
-        return Reading::Part;
-    }
-    let Some(what) = record_at(bytes, at) else {
-        return Reading::Bad;
-    };
-    Reading::Whole(what, at + size)
+    let first = bytes.get(at).ok_or(Unread::Part)?;
+    let kind = Kind::try_from(*first)?;
+    let rest = &bytes[at..];
+    let size = size(kind, rest).ok_or(Unread::Bad)?;
+    let body = rest.get(1..size).ok_or(Unread::Part)?;
+    let what = record(kind, body).ok_or(Unread::Bad)?;
+    Ok((what, at + size))
 }

@@ -8,11 +8,11 @@ use std::test::Fail;
 use table::Row;
 
 fn is_part(bytes: &[u8]) -> bool {
-    matches!(decode(bytes, 0), Reading::Part)
+    decode(bytes, 0).is_err_and(|unread| unread == Unread::Part)
 }
 
 fn is_bad(bytes: &[u8]) -> bool {
-    matches!(decode(bytes, 0), Reading::Bad)
+    decode(bytes, 0).is_err_and(|unread| unread == Unread::Bad)
 }
 
 // A row of the key 258 is put by somebody who knows the index 1 as public and the index 7 as delete-only.
@@ -21,10 +21,7 @@ fn row_put() -> Option<Record> {
     stages[1] = Stage::Public;
     stages[7] = Stage::DeleteOnly;
     let columns = [16909060, 0, 0, 0, 0, 0, 0, 4294967295];
-    match Key::new(258) {
-        Some(key) => Some(Record::Put(key, Row { columns }, stages)),
-        None => None,
-    }
+    Some(Record::Put(Key::new(258)?, Row { columns }, stages))
 }
 
 #[test]
@@ -37,14 +34,11 @@ fn written_and_read(rt: HostRuntime) -> Result<(), Fail> {
     assert!(rt; out.len() == 40);
     assert!(rt; out.as_slice()[0..8] == [1, 1, 2, 1, 2, 3, 4, 0]);
     assert!(rt; out.as_slice()[31..40] == [255, 255, 255, 255, 2, 1, 3, 7, 1]);
-    let Reading::Whole(again, end) = decode(out.as_slice(), 0) else {
+    let Ok((Record::Put(key, row, stages), end)) = decode(out.as_slice(), 0) else {
         return Err(Fail::new("not read back"));
     };
-    let Record::Put(key, row, stages) = again else {
-        return Err(Fail::new("another record"));
-    };
     assert!(rt; end == 40 && key.number() == 258 && row.columns[0] == 16909060);
-    assert!(rt; stages[1].number() == 3 && stages[2].number() == 0);
+    assert!(rt; stages[1] == Stage::Public && stages[2] == Stage::Absent);
     Ok(())
 }
 

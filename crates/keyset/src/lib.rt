@@ -11,8 +11,10 @@ ghost use Rattle.keyset.specs.Sets.{has, places, any_below, keys_below};
 use std::alloc::{AllocError, Global};
 
 mod key;
+mod number;
 
-pub use key::{KEYS, Key};
+pub use key::{KEYS, Key, OfRow};
+pub use number::Number;
 
 /// How many words a set of all keys takes.
 pub const WORDS: usize = 128;
@@ -58,38 +60,21 @@ pub fn remove(words: &mut [u32], key: Key)
 pub fn is_empty(words: &[u32]) -> bool
     ensures { result ≡ not (any_below (has words.now) 4096) }
 {
-    for k in 0..KEYS {
-        if holds(words, k) {
-            return false;
-        }
-    }
-    true
+    !(0..KEYS).any(|k| holds(words, k))
 }
 
 /// How many keys are in the set.
 pub fn count(words: &[u32]) -> u16
     ensures { result ≡ length (keys_below (has words.now) 4096) }
 {
-    let mut n = 0;
-    for k in 0..KEYS {
-        if holds(words, k) {
-            n += 1;
-        }
-    }
-    n
+    (0..KEYS).filter(|k| holds(words, *k)).count() as u16
 }
 
 /// The keys of the set, rising.
 pub fn listed(heap: Global, words: &[u32]) -> Result<Vec<u16>, AllocError>
     ensures { IfOk result (λ v. v.items ≡ keys_below (has words.now) 4096) }
 {
-    let mut keys = Vec::new(heap);
-    for k in 0..KEYS {
-        if holds(words, k) {
-            keys.push(k)?;
-        }
-    }
-    Ok(keys)
+    (0..KEYS).filter(|k| holds(words, *k)).collect(heap)
 }
 
 #[cfg(test)]

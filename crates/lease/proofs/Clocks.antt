@@ -1,5 +1,5 @@
 -- A lease that an office still acts on, by its own clock, has not run out by the store's.
-use Rattle.std.proofs.Common.{◌≡◌, ℕ, zero, suc, ◌+◌, ◌-◌, ◌*◌, ◌≤◌, ◌⊎◌, ap, ◌∙◌, inl, inr, mul_assoc, mul_comm, mul-le-mul_left, mul-zero, mul-one, mul-suc, mul-add, mul_left_comm, arith, leb-true}
+use Rattle.std.proofs.Common.{◌≡◌, ℕ, zero, suc, ◌+◌, ◌-◌, ◌*◌, ◌≤◌, ◌⊎◌, inl, inr, mul-le-mul_left, mul-zero, mul-suc, arith, leb-true}
 use native.Mathlib.Nat.{le_of_mul-le-mul_left}
 use native.Mathlib.Decide.{dec_lt}
 use Rattle.lease.specs.Clocks.{Times, Fit, StillRuns, StillQuiet, ClockLaw}
@@ -10,10 +10,7 @@ numbers U D G S L x y g xy slow fast fits =
     let a : D * (G * L) ≤ D * (U * x) = mul-le-mul_left D fast in
     let b : U * (D * y) ≤ U * (G * (S + 1)) = mul-le-mul_left U slow in
     let c : D * (U * x) ≤ D * (U * y) = mul-le-mul_left D (mul-le-mul_left U xy) in
-    let e : D * (G * L) ≡ G * (L * D) = mul_left_comm D G L ∙ ap (λ z. G * z) (mul_comm D L) in
-    let f : U * (G * (S + 1)) ≡ G * ((S + 1) * U) = mul_left_comm U G (S + 1) ∙ ap (λ z. G * z) (mul_comm U (S + 1)) in
-    let h : D * (U * y) ≡ U * (D * y) = mul_left_comm D U y in
-    let k : G * (L * D) ≤ G * ((S + 1) * U) = omega arith in
+    let k : G * (L * D) ≤ G * ((S + 1) * U) = grind arith in
     let l : L * D ≤ (S + 1) * U = le_of_mul-le-mul_left k g in
     omega arith
 
@@ -31,15 +28,11 @@ module _ (long : ℕ) (p : Times) (fit : Fit long p) where
           let ac : a ≤ c = omega arith in
           let s1 = co.not_slow a c (omega arith) ac in
           let s2 : g * office c ≤ g * (office a + p.short) = mul-le-mul_left g (leb-true (office c) (office a + p.short) act) in
-          let s3 = mul-add g (office a) p.short in
           let f1 = cs.not_fast b c ub bc in
           let f2 : g * (store b + long) ≤ g * store c = mul-le-mul_left g h in
-          let f3 = mul-add g (store b) long in
-          let e1 : 1000000 * g * (p.short + 1) ≡ 1000000 * (g * p.short + g) = mul_assoc 1000000 g (p.short + 1) ∙ ap (λ z. 1000000 * z) (mul-add g p.short 1 ∙ ap (λ z. g * p.short + z) (mul-one g)) in
-          let e2 : 1000000 * g * (long - 1) ≡ 1000000 * (g * (long - 1)) = mul_assoc 1000000 g (long - 1) in
           let one = one_less g long in
           let g1 = fit.some_grain in
-          numbers (1000000 + p.rate) (1000000 - p.rate) (1000000 * g) p.short (long - 1) (c - b) (c - a) (omega arith) (omega arith) (omega arith) (omega arith) fit.within
+          numbers (1000000 + p.rate) (1000000 - p.rate) (1000000 * g) p.short (long - 1) (c - b) (c - a) (omega arith) (omega arith) (grind arith) (grind arith) fit.within
 
   -- a coming up is like a grant at a clock of 0
   still_quiet : StillQuiet long p

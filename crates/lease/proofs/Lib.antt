@@ -1,4 +1,4 @@
-pub mod Turns
 pub mod Clocks
 pub mod Books
 pub mod Sizes
+pub mod Views

@@ -1,7 +1,8 @@
 -- The code's leases as the rules see them.
-use Rattle.std.specs.Prelude.{ℕ, cond, List, [], ◌∷◌, map, Some, None, Option, ◌==◌}
+use Rattle.std.specs.Prelude.{ℕ, List, map, Option, ◌==◌, find}
+use Rattle.std.specs.Option.{option_map}
 use Rattle.stage.specs.Stages.{ranks}
-use Rattle.lease.specs.declared.kinds.Lease.{Lease}
+use Rattle.lease.specs.declared.lease.Lease.{Lease}
 use Rattle.lease.specs.Leases as rules
 
 -- a lease, its stages by number
@@ -13,6 +14,5 @@ abbrev pub book_of : List Lease → List rules.Lease
 book_of ls = map lease_of ls
 
 -- the stages of an office's newest lease
-unfoldable pub newest_of : (office : ℕ) → List rules.Lease → Option (List ℕ)
-newest_of o [] = None
-newest_of o (l ∷ ls) = cond (l.office == o) (Some l.stages) (newest_of o ls)
+abbrev pub newest_of : (office : ℕ) → List rules.Lease → Option (List ℕ)
+newest_of o ls = option_map (λ l. l.stages) (find (λ l. l.office == o) ls)

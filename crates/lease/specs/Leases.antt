@@ -1,5 +1,7 @@
 -- The store's book of leases.
-use Rattle.std.specs.Prelude.{◌≡◌, ℕ, ◌+◌, ◌*◌, ◌^◌, ◌<◌, ◌≤◌, Bool, true, false, cond, not, ◌&&◌, ◌||◌, List, [], ◌∷◌, length, ◌==◌, ◌≢◌, nat_lt, slice_index}
+use Rattle.std.specs.Prelude.{◌≡◌, ℕ, ◌+◌, ◌*◌, ◌^◌, ◌<◌, ◌≤◌, Bool, not, ◌&&◌, ◌||◌, List, [], ◌∷◌, length, ◌==◌, ◌≢◌, nat_eq, nat_lt, slice_index, filter}
+use Rattle.std.specs.List.{list_any, list_all}
+use Rattle.std.specs.Cmp.Lexicographic.{pointwise}
 use mathlib.Core.List.{Memᴰ}
 
 -- a lease: the stages that an office was told, one for each index, and the store's clock when it was noted
@@ -17,11 +19,8 @@ abbrev pub runs : (long reading : ℕ) → Lease → Bool
 runs long t l = nat_lt t (l.since + long)
 
 -- are these the same stages
-unfoldable pub same_list : List ℕ → List ℕ → Bool
-same_list [] [] = true
-same_list [] (y ∷ ys) = false
-same_list (x ∷ xs) [] = false
-same_list (x ∷ xs) (y ∷ ys) = x == y && same_list xs ys
+abbrev pub same_list : List ℕ → List ℕ → Bool
+same_list xs ys = pointwise nat_eq xs ys
 
 -- is a lease of that office and these stages
 abbrev pub is_of : (office : ℕ) → (stages : List ℕ) → Lease → Bool
@@ -32,27 +31,24 @@ abbrev pub stands : (long reading office : ℕ) → (stages : List ℕ) → Leas
 stands long t o ss l = runs long t l && is_of o ss l
 
 -- has an office a lease that runs, of these stages
-unfoldable pub holds : (long reading office : ℕ) → (stages : List ℕ) → List Lease → Bool
-holds long t o ss [] = false
-holds long t o ss (l ∷ ls) = stands long t o ss l || holds long t o ss ls
+abbrev pub holds : (long reading office : ℕ) → (stages : List ℕ) → List Lease → Bool
+holds long t o ss ls = list_any (stands long t o ss) ls
 
 -- is a lease over, or of that stage of an index
 abbrev pub is_at : (long reading index stage : ℕ) → Lease → Bool
 is_at long t i s l = not (runs long t l) || stage_at l.stages i == s
 
 -- is every lease that runs of that stage of an index
-unfoldable pub all_at : (long reading index stage : ℕ) → List Lease → Bool
-all_at long t i s [] = true
-all_at long t i s (l ∷ ls) = is_at long t i s l && all_at long t i s ls
+abbrev pub all_at : (long reading index stage : ℕ) → List Lease → Bool
+all_at long t i s ls = list_all (is_at long t i s) ls
 
 -- does a lease stay beside a new one: it still runs, and is of another office or other stages
 abbrev pub stays : (long : ℕ) → (new : Lease) → Lease → Bool
 stays long n l = runs long n.since l && not (is_of n.office n.stages l)
 
 -- what stays in the book beside a new lease
-unfoldable pub left_beside : (long : ℕ) → (new : Lease) → List Lease → List Lease
-left_beside long n [] = []
-left_beside long n (l ∷ ls) = cond (stays long n l) (l ∷ left_beside long n ls) (left_beside long n ls)
+abbrev pub left_beside : (long : ℕ) → (new : Lease) → List Lease → List Lease
+left_beside long n ls = filter (stays long n) ls
 
 -- the book once a lease is noted
 abbrev pub noted : (long : ℕ) → (new : Lease) → List Lease → List Lease

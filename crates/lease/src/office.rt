@@ -1,13 +1,14 @@
 //! An office's own side: the leases that it was told, by its own clock.
 
-ghost use Rattle.std.specs.Prelude.{◌≡◌, IfOk, MatchResult};
-ghost use Rattle.lease.specs.Desks.{desk_of, fresh, asks, acts_on, with_new, told, until, newest_acted};
+ghost use Rattle.std.specs.Prelude.{◌≡◌, MatchResult};
+ghost use Rattle.lease.specs.Desks.{desk_of, fresh, asks, acts_on, told, until, newest_acted};
 
 use stage::{INDEXES, Stage};
 use std::alloc::{AllocError, Global};
+use std::iter;
 
 /// A lease that an office was told: the epoch, the stages of all indexes, and what its own clock showed when it asked.
-#[derive(Clone, Copy)]
+#[derive(Clone, Copy, Debug, PartialEq, Eq)]
 pub struct Grant {
     pub epoch: u64,
     pub stages: [Stage; INDEXES],
@@ -28,27 +29,8 @@ impl Grant {
     fn is_acted_on(&self, short: u64, own: u64) -> bool
         ensures { result ≡ acts_on short own self.now }
     {
-        own < self.asked || own - self.asked <= short
+        own.saturating_sub(self.asked) <= short
     }
-}
-
-/// The grants with a new one; those that were over as it was asked for are dropped.
-fn with_grant(
-    heap: Global,
-    grants: &[Grant],
-    short: u64,
-    new: Grant,
-) -> Result<Vec<Grant>, AllocError>
-    ensures { IfOk result (λ v. v.items ≡ with_new short new grants.now) }
-{
-    let mut all = Vec::new(heap);
-    all.push(new)?;
-    for grant in grants {
-        if grant.is_acted_on(short, new.asked) {
-            all.push(*grant)?;
-        }
-    }
-    Ok(all)
 }
 
 impl Desk {
@@ -88,8 +70,12 @@ impl Desk {
             stages,
             asked,
         };
-        let grants = with_grant(heap, self.grants.as_slice(), self.short, new)?;
-        self.grants = grants;
+        let others = self
+            .grants
+            .iter()
+            .copied()
+            .filter(|old| old.is_acted_on(self.short, asked));
+        self.grants = iter::once(new).chain(others).collect(heap)?;
         self.asked = None;
         Ok(Some(asked.saturating_add(self.short)))
     }
@@ -98,11 +84,9 @@ impl Desk {
     pub fn may(&self, own: u64) -> Option<Grant>
         ensures { result ≡ newest_acted self.now.short own self.now.grants.items }
     {
-        let grant = self.grants.as_slice().first()?;
-        if grant.is_acted_on(self.short, own) {
-            Some(*grant)
-        } else {
-            None
-        }
+        self.grants
+            .first()
+            .copied()
+            .filter(|grant| grant.is_acted_on(self.short, own))
     }
 }

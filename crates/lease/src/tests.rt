@@ -1,7 +1,7 @@
 //! Leases, times and an office's own side, at the edges.
 
 use super::*;
-use stage::Slot;
+use stage::{INDEXES, Slot, Stage};
 use std::alloc::{AllocError, Global};
 use std::test::Fail;
 
@@ -40,16 +40,12 @@ fn held(heap: Global, long: u64, since: u64, reading: u64) -> Result<bool, Alloc
 // Whether every running lease is of a stage of the first index, where one of another was noted at 0.
 fn all_at(heap: Global, long: u64, reading: u64, stage: Stage) -> Result<bool, AllocError> {
     let book = book(heap, long, &[lease(1, Stage::DeleteOnly, 0)])?;
-    match Slot::new(0) {
-        Some(index) => Ok(book.all_at(long, reading, index, stage)),
-        None => Ok(false),
-    }
+    Ok(Slot::new(0).is_some_and(|index| book.all_at(long, reading, index, stage)))
 }
 
 // The stage of the first index in an office's newest lease.
 fn newest(book: &Book, office: u8) -> Option<u8> {
-    let stages = book.newest(office)?;
-    Some(stages[0].number())
+    book.newest(office).map(|stages| u8::from(stages[0]))
 }
 
 fn fit(long: u64, short: u64, rate: u32) -> bool {
@@ -76,8 +72,7 @@ fn acts(heap: Global, short: u64, asked: u64, own: u64) -> Result<bool, AllocErr
 fn until(heap: Global, short: u64, asked: u64) -> Result<Option<u64>, AllocError> {
     let mut desk = Desk::new(heap, short);
     desk.ask(asked);
-    let end = desk.granted(heap, 1, first(Stage::Absent))?;
-    Ok(end)
+    desk.granted(heap, 1, first(Stage::Absent))
 }
 
 #[test]
@@ -135,13 +130,9 @@ fn times_fit(rt: HostRuntime) {
 
 #[test]
 fn times_are_those_given(rt: HostRuntime) -> Result<(), Fail> {
-    match Times::new(10000, 9000, 1000) {
-        Some(times) => {
-            assert!(rt; times.long() == 10000 && times.short() == 9000 && times.rate() == 1000);
-            Ok(())
-        },
-        None => Err(Fail::new("they fit")),
-    }
+    let times = Times::new(10000, 9000, 1000).ok_or_else(|| Fail::new("they fit"))?;
+    assert!(rt; times.long() == 10000 && times.short() == 9000 && times.rate() == 1000);
+    Ok(())
 }
 
 #[test]
@@ -160,13 +151,11 @@ fn asked_once(rt: HostRuntime) -> Result<(), Fail> {
     let heap = rt.alloc();
     let mut desk = desk(heap, 10, &[6])?;
     assert_eq!(rt; desk.granted(heap, 9, first(Stage::Absent))?, None);
-    match desk.may(16) {
-        Some(grant) => {
-            assert!(rt; grant.epoch == 6 && grant.asked == 6 && grant.stages[0].looks_up());
-            Ok(())
-        },
-        None => Err(Fail::new("it acts on what it asked for")),
-    }
+    let grant = desk
+        .may(16)
+        .ok_or_else(|| Fail::new("it acts on what it asked for"))?;
+    assert!(rt; grant.epoch == 6 && grant.asked == 6 && grant.stages[0].looks_up());
+    Ok(())
 }
 
 #[test]
@@ -174,11 +163,8 @@ fn newest_grant(rt: HostRuntime) -> Result<(), Fail> {
     let heap = rt.alloc();
     assert_eq!(rt; desk(heap, 10, &[6, 16])?.grants.len(), 2);
     assert_eq!(rt; desk(heap, 10, &[6, 17])?.grants.len(), 1);
-    match desk(heap, 10, &[6, 16])?.may(16) {
-        Some(grant) => {
-            assert_eq!(rt; grant.epoch, 16);
-            Ok(())
-        },
-        None => Err(Fail::new("it acts on the newer")),
-    }
+    let newer = desk(heap, 10, &[6, 16])?.may(16);
+    let grant = newer.ok_or_else(|| Fail::new("it acts on the newer"))?;
+    assert_eq!(rt; grant.epoch, 16);
+    Ok(())
 }

@@ -1,11 +1,11 @@
 //! How long leases run, and how long offices act on them.
 
-ghost use Rattle.std.specs.Prelude.{◌≡◌, ℕ, ◌+◌, ◌-◌, ◌*◌, ◌≤◌, MatchOption};
+ghost use Rattle.std.specs.Prelude.{◌≡◌, ◌+◌, ◌-◌, ◌*◌, MatchOption};
 ghost use Rattle.lease.specs.Clocks.{Fits};
 
 /// For how long a lease runs by the store's clock and an office acts on it by its own, in milliseconds, and by how
 /// many millionths a clock may be off. They fit: no office acts on a lease that has run out.
-#[derive(Clone, Copy)]
+#[derive(Clone, Copy, Debug, PartialEq, Eq)]
 pub struct Times {
     long: u64,
     short: u64,
@@ -32,6 +32,7 @@ impl Times {
     pub fn new(long: u64, short: u64, rate: u32) -> Option<Times>
         ensures { MatchOption result (Fits long short rate → ⊥) (λ t. (t.long ≡ long) × (t.short ≡ short) × (t.rate ≡ rate)) }
     {
+        // `then` would need a clause on its closure, for the fact that they fit.
         if acting(short, rate) <= running(long, rate) {
             Some(Times { long, short, rate })
         } else {

@@ -6,8 +6,7 @@ use Rattle.service.specs.Calls.{Claim}
 use Rattle.service.specs.Held.{claim_of}
 use Rattle.lines.specs.declared.kinds.Asked.{Asked}
 use Rattle.lines.specs.declared.kinds.Asked.TheVariants.{Write, Off, Read, Look, Loan, Make, Up, Turn, Down, Fill, Clear, Rows}
-use Rattle.lines.specs.declared.kinds.Basis.{Basis}
-use Rattle.lines.specs.declared.kinds.Basis.TheVariants.{Newest, Named}
+use Rattle.service.specs.declared.kinds.Claim as codes
 use Rattle.lines.specs.declared.verbs.OfficeVerb.{OfficeVerb}
 use Rattle.lines.specs.declared.verbs.OfficeVerb.TheVariants as office
 use Rattle.lines.specs.declared.verbs.IndexVerb.{IndexVerb}
@@ -27,10 +26,9 @@ pub data Ask : Type 0 where
   up turn down fill clear : (index : ℕ) → Ask
   rows : (index value : ℕ) → Ask
 
--- the claim that a line names
-abbrev pub basis_of : Basis → Option Claim
-basis_of Newest = None
-basis_of (Named c) = Some (claim_of c)
+-- the claim that a line names, if it names one
+abbrev pub basis_of : Option codes.Claim → Option Claim
+basis_of = option_map claim_of
 
 -- what the code's value says
 abbrev pub ask_of : Asked → Ask

@@ -1,7 +1,7 @@
 -- What is read of a line.
-use Rattle.std.specs.Prelude.{ℕ, Bool, false, cond, List, [], ◌∷◌, length, Some, None, Option, ◌==◌, nat_lt}
-use Rattle.lines.specs.declared.kinds.Parsed as codes
-use Rattle.lines.specs.declared.kinds.Parsed.TheVariants as code
+use Rattle.std.specs.Prelude.{ℕ, Bool, false, cond, List, [], ◌∷◌, length, Some, None, Option, Ok, Err, Result, ◌==◌, nat_lt}
+use Rattle.lines.specs.declared.kinds.Asked.{Asked}
+use Rattle.lines.specs.declared.kinds.Unreadable.{Unreadable}
 use Rattle.std.specs.Option.{unwrap_or}
 use Rattle.words.specs.Words.{words}
 use Rattle.words.specs.Numbers.{first_number}
@@ -14,10 +14,10 @@ pub data Parsed : Type 0 where
   refused : Parsed
 
 -- what the code's value says
-abbrev pub parsed_of : codes.Parsed → Parsed
-parsed_of code.Skip = skip
-parsed_of (code.Line a) = asks (ask_of a)
-parsed_of code.Refused = refused
+abbrev pub parsed_of : Result (Option Asked) Unreadable → Parsed
+parsed_of (Ok None) = skip
+parsed_of (Ok (Some a)) = asks (ask_of a)
+parsed_of (Err e) = refused
 
 -- a comment begins with #
 abbrev pub is_comment : List ℕ → Bool

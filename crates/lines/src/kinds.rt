@@ -3,24 +3,18 @@
 use keyset::Key;
 use service::Claim;
 use stage::Slot;
+use std::error::Error;
+use std::fmt;
 use table::{Column, Row};
 
-/// What an office's line acts on.
-#[derive(Clone, Copy)]
-pub enum Basis {
-    /// The newest lease that the store has noted for the office.
-    Newest,
-    /// The epoch and the stages that the line names.
-    Named(Claim),
-}
-
-/// What a line asks for. Those of an office begin with the office's number.
+/// What a line asks for. Those of an office begin with the office's number; what such a line acts on is the claim
+/// that it names, or, where it names none, the newest lease that the store has noted for the office.
 #[derive(Clone, Copy)]
 pub enum Asked {
-    Write(u8, Basis, Key, Row),
-    Off(u8, Basis, Key),
+    Write(u8, Option<Claim>, Key, Row),
+    Off(u8, Option<Claim>, Key),
     Read(u8, Key),
-    Look(u8, Basis, Slot, u32),
+    Look(u8, Option<Claim>, Slot, u32),
     Loan(u8),
     Make(Slot, Column, bool),
     Up(Slot),
@@ -31,13 +25,14 @@ pub enum Asked {
     Rows(Slot, u32),
 }
 
-/// A line as it is read.
-#[derive(Clone, Copy)]
-pub enum Parsed {
-    /// It is empty or a comment, and gets no answer.
-    Skip,
-    /// It asks for this.
-    Line(Asked),
-    /// It cannot be read.
-    Refused,
+/// The error of a line that cannot be read.
+#[derive(Clone, Copy, Debug, PartialEq, Eq)]
+pub struct Unreadable;
+
+impl fmt::Display for Unreadable {
+    fn fmt<W: fmt::Write>(&self, f: &mut fmt::Formatter<W>) -> fmt::Result {
+        write!(f, "the line cannot be read")
+    }
 }
+
+impl Error for Unreadable {}

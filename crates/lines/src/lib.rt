@@ -9,7 +9,7 @@ mod reader;
 mod stages;
 mod verbs;
 
-pub use kinds::{Asked, Basis, Parsed};
+pub use kinds::{Asked, Unreadable};
 pub use parser::{LONGEST, asked_by_office, is_comment, parse, parse_timed};
 pub use stages::stages_in;
 pub use verbs::{OfficeVerb, office_verb, spells};

@@ -1,13 +1,13 @@
-//! Lines that people and programs write to the store.
+//! What a line asks, by its first words.
 
-ghost use Rattle.std.specs.Prelude.{◌≡◌, ℕ, ◌<◌, ◌≤◌, drop};
+ghost use Rattle.std.specs.Prelude.{◌≡◌, drop, IfOk, is_ok, not, ◌||◌, [], if◌then◌else◌};
 ghost use Rattle.std.specs.Option.{option_map, unwrap_or};
 ghost use Rattle.words.specs.Words.{words};
-ghost use Rattle.lines.specs.Asks.{ask_of, by_office, by_index, office_in, ask_in};
-ghost use Rattle.lines.specs.Lines.{is_comment, parsed_of, parsed_in, reading_in, timed_in, behind_reading};
 ghost use Rattle.words.specs.Numbers.{first_number};
+ghost use Rattle.lines.specs.Asks.{ask_of, by_office, by_index, office_in, ask_in};
+ghost use Rattle.lines.specs.Lines.{is_comment, too_long, parsed_of, parsed_in, or_refused, reading_in, timed_in, behind_reading};
 
-use super::kinds::{Asked, Parsed};
+use super::kinds::{Asked, Unreadable};
 use super::reader::{index_in, loan_in, look_in, make_in, off_in, read_in, rows_in, write_in};
 use super::verbs::{IndexVerb, OfficeVerb, index_verb, office_verb};
 use words::{Words, number};
@@ -20,7 +20,7 @@ const LAST_OFFICE: u64 = 63;
 
 /// What an office asks for by a word, given the rest of the line.
 pub fn asked_by_office(office: u8, verb: OfficeVerb, line: &mut Words) -> Option<Asked>
-    ensures { option_map ask_of result ≡ by_office office verb (words line.old.rest.now) }
+    ensures { option_map ask_of result ≡ by_office office verb line.old }
 {
     match verb {
         OfficeVerb::Write => write_in(office, line),
@@ -33,45 +33,35 @@ pub fn asked_by_office(office: u8, verb: OfficeVerb, line: &mut Words) -> Option
 
 /// What is asked behind an office's number.
 fn asked_behind_office(office: u8, line: &mut Words) -> Option<Asked>
-    ensures { option_map ask_of result ≡ office_in office (words line.old.rest.now) }
+    ensures { option_map ask_of result ≡ office_in office line.old }
 {
-    let Some(word) = line.next() else {
-        return None;
-    };
-    match office_verb(word) {
-        Some(verb) => asked_by_office(office, verb, line),
-        None => None,
-    }
+    let verb = office_verb(line.next()?)?;
+    asked_by_office(office, verb, line)
 }
 
 /// What is asked of an index by a word, given the rest of the line.
 fn asked_by_index(verb: IndexVerb, line: &mut Words) -> Option<Asked>
-    ensures { option_map ask_of result ≡ by_index verb (words line.old.rest.now) }
+    ensures { option_map ask_of result ≡ by_index verb line.old }
 {
     match verb {
         IndexVerb::Make => make_in(line),
         IndexVerb::Rows => rows_in(line),
-        IndexVerb::Up => Some(Asked::Up(index_in(line)?)),
-        IndexVerb::Turn => Some(Asked::Turn(index_in(line)?)),
-        IndexVerb::Down => Some(Asked::Down(index_in(line)?)),
-        IndexVerb::Fill => Some(Asked::Fill(index_in(line)?)),
-        IndexVerb::Clear => Some(Asked::Clear(index_in(line)?)),
+        IndexVerb::Up => index_in(line).map(Asked::Up),
+        IndexVerb::Turn => index_in(line).map(Asked::Turn),
+        IndexVerb::Down => index_in(line).map(Asked::Down),
+        IndexVerb::Fill => index_in(line).map(Asked::Fill),
+        IndexVerb::Clear => index_in(line).map(Asked::Clear),
     }
 }
 
 /// What a line asks for, if it can be read.
 fn asked_in(line: &mut Words) -> Option<Asked>
-    ensures { option_map ask_of result ≡ ask_in (words line.old.rest.now) }
+    ensures { option_map ask_of result ≡ ask_in line.old }
 {
-    let Some(word) = line.next() else {
-        return None;
-    };
+    let word = line.next()?;
     match number(word, LAST_OFFICE) {
         Some(office) => asked_behind_office(office as u8, line),
-        None => match index_verb(word) {
-            Some(verb) => asked_by_index(verb, line),
-            None => None,
-        },
+        None => asked_by_index(index_verb(word)?, line),
     }
 }
 
@@ -79,57 +69,60 @@ fn asked_in(line: &mut Words) -> Option<Asked>
 pub fn is_comment(line: &[u8]) -> bool
     ensures { result ≡ is_comment line.now }
 {
-    !line.is_empty() && line[0] == b'#'
+    line.starts_with(b"#")
 }
 
-/// Reads a line, given without its end.
-pub fn parse(line: &[u8]) -> Parsed
-    ensures { parsed_of result ≡ parsed_in line.now }
+/// The words that there are to read in a line: none in a comment.
+fn words_of(line: &[u8]) -> Result<Words<'_>, Unreadable>
+    ensures read { IfOk result (λ left. left ≡ (if is_comment line.now then [] else words line.now)) }
+    ensures short { is_ok result ≡ (is_comment line.now || not (too_long line.now)) }
 {
     if is_comment(line) {
-        return Parsed::Skip;
+        return Ok(Words::new(b""));
     }
     if line.len() > LONGEST {
-        return Parsed::Refused;
+        return Err(Unreadable);
     }
-    let mut words = Words::new(line);
+    Ok(Words::new(line))
+}
+
+/// What words ask for.
+fn ask(line: &mut Words) -> Result<Option<Asked>, Unreadable>
+    ensures { parsed_of result ≡ or_refused (ask_in line.old) }
+{
+    asked_in(line).map(Some).ok_or(Unreadable)
+}
+
+/// Reads a line, given without its end: what it asks for, or nothing where it is empty or a comment, and gets no answer.
+pub fn parse(line: &[u8]) -> Result<Option<Asked>, Unreadable>
+    ensures { parsed_of result ≡ parsed_in line.now }
+{
+    let mut words = words_of(line)?;
     if words.is_read() {
-        return Parsed::Skip;
+        return Ok(None);
     }
-    match asked_in(&mut words) {
-        Some(asked) => Parsed::Line(asked),
-        None => Parsed::Refused,
-    }
+    ask(&mut words)
 }
 
 /// A reading of the clock, and what is asked behind it.
-fn timed_in(line: &mut Words) -> (u64, Parsed)
-    ensures reading { result.0 ≡ unwrap_or (first_number 18446744073709551615 (words line.old.rest.now)) 0 }
-    ensures parsed { parsed_of result.1 ≡ behind_reading (first_number 18446744073709551615 (words line.old.rest.now)) (drop 1 (words line.old.rest.now)) }
+fn timed_in(line: &mut Words) -> (u64, Result<Option<Asked>, Unreadable>)
+    ensures reading { result.0 ≡ unwrap_or (first_number 18446744073709551615 line.old) 0 }
+    ensures parsed { parsed_of result.1 ≡ behind_reading (first_number 18446744073709551615 line.old) (drop 1 line.old) }
 {
-    let Some(reading) = line.number(u64::MAX) else {
-        return (0, Parsed::Refused);
-    };
-    match asked_in(line) {
-        Some(asked) => (reading, Parsed::Line(asked)),
-        None => (reading, Parsed::Refused),
+    match line.number(u64::MAX) {
+        Some(reading) => (reading, ask(line)),
+        None => (0, Err(Unreadable)),
     }
 }
 
 /// Reads a line that begins with a reading of the clock, given without its end. A line without one has the reading 0.
-pub fn parse_timed(line: &[u8]) -> (u64, Parsed)
+pub fn parse_timed(line: &[u8]) -> (u64, Result<Option<Asked>, Unreadable>)
     ensures reading { result.0 ≡ reading_in line.now }
     ensures parsed { parsed_of result.1 ≡ timed_in line.now }
 {
-    if is_comment(line) {
-        return (0, Parsed::Skip);
+    match words_of(line) {
+        Ok(mut words) if !words.is_read() => timed_in(&mut words),
+        Ok(_) => (0, Ok(None)),
+        Err(unreadable) => (0, Err(unreadable)),
     }
-    if line.len() > LONGEST {
-        return (0, Parsed::Refused);
-    }
-    let mut words = Words::new(line);
-    if words.is_read() {
-        return (0, Parsed::Skip);
-    }
-    timed_in(&mut words)
 }

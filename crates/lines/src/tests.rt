@@ -1,17 +1,12 @@
 use super::*;
+use std::alloc::AllocError;
 
 fn is_refused(line: &[u8]) -> bool {
-    match parse(line) {
-        Parsed::Refused => true,
-        Parsed::Skip | Parsed::Line(_) => false,
-    }
+    parse(line).is_err()
 }
 
 fn is_skipped(line: &[u8]) -> bool {
-    match parse(line) {
-        Parsed::Skip => true,
-        Parsed::Refused | Parsed::Line(_) => false,
-    }
+    matches!(parse(line), Ok(None))
 }
 
 #[test]
@@ -31,4 +26,11 @@ fn length(rt: HostRuntime) {
     let spaces = [b' '; 4097];
     assert!(rt; is_skipped(b"") && is_skipped(b"#") && is_skipped(&spaces[0..4096]));
     assert!(rt; is_refused(&spaces) && is_refused(b" #"));
+}
+
+#[test]
+fn unreadable(rt: HostRuntime) -> Result<(), AllocError> {
+    let text = format!(in rt.alloc(); "{Unreadable}")?;
+    assert_eq!(rt; text.as_str(), "the line cannot be read");
+    Ok(())
 }

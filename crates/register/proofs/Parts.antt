@@ -1,95 +1,58 @@
--- Entries and heads of several indexes, once those of one are changed.
-use Rattle.std.proofs.Common.{◌≡◌, ℕ, zero, suc, ◌+◌, ◌<◌, ◌≤◌, true, cond, eqb, leb, List, [], ◌∷◌, ◌++◌, length, get_or, set, replicate, Some, None, vec_items, Option, sym, refl, ap, ◌∙◌, ap₂, ⊎_elim, arith}
+-- The places of all indexes: what is read of them, what is there once one is another, and the stages that they tell.
+use Rattle.std.proofs.Common.{◌≡◌, ℕ, zero, suc, ◌<◌, ◌≤◌, true, eqb, leb, List, [], ◌∷◌, ◌++◌, map, length, get_or, set, Some, None, Option, sym, refl, ap, ◌∙◌, subst, ⊎_elim, add-one, zero-add, arith, Bor}
 use mathlib.Core.Path.{fun_ext}
-use Rattle.std.proofs.lemmas.List.{get_or_default}
+use Rattle.std.specs.List.{slice_get, range_with_len}
+use Rattle.std.specs.Option.{option_and_then}
+use Rattle.std.proofs.lemmas.Grind.{common_steps}
+use Rattle.std.proofs.lemmas.Option.{gets, slice_get_past, slice_get_within, get_or_from_slice_get}
+use Rattle.std.proofs.lemmas.List.{length-map}
+use Rattle.std.proofs.Math.ListN.{get_or-map}
+use Rattle.std.proofs.lemmas.List.FromFn.{fill_by_all, map-range_with_len_more}
 use Rattle.std.proofs.lemmas.Bool.{cases_eq, eq-eqb, ne_eqb, and_from}
-use Rattle.std.specs.Vec.{with_items}
-use Rattle.table.specs.declared.owners.Entries.{Entries}
 use Rattle.table.specs.declared.row.Row.{Row}
-use Rattle.table.specs.declared.owners.Rows.{Rows}
+use Rattle.table.specs.declared.table.Table.{Table}
 use Rattle.table.specs.Held.{entry_of, row_of}
 use Rattle.table.specs.Update.{update}
-use Rattle.table.proofs.Lent.{Lent, lent, lent_length}
 use Rattle.stage.specs.declared.kinds.Stage.{Stage}
 use Rattle.stage.specs.declared.kinds.Stage.TheVariants.{Absent, DeleteOnly, WriteOnly, Public}
 use Rattle.stage.specs.Stages.{rank, ranks}
 use Rattle.stage.proofs.Ranks.{rank_at}
-use Rattle.change.specs.declared.kinds.Index.{Index}
-use Rattle.change.specs.Index.{refuses}
-use Rattle.change.specs.Heads.{head_of, slot_of}
+use Rattle.change.specs.Heads.{slot_of}
 use Rattle.change.specs.Protocol.{gone, stage_of}
+use Rattle.register.specs.declared.place.Place.{Place}
 use Rattle.register.specs.declared.owner.Register as codes
-use Rattle.register.specs.Registers.{Register, bare, cell_of, all_stages, are_stages, wrote}
+use Rattle.register.specs.Registers.{Register, bare, all_stages, are_stages, stages_now}
 use Rattle.register.specs.Held.{entry_in, head_in}
 
--- the entries of one index
-pub entry_at : (es : List Entries) (i : ℕ) (d : Entries) → i < length es → (j : ℕ) → entry_in es i j ≡ entry_of (get_or es i d) j
-entry_at [] i d l j = absurd (omega arith)
-entry_at (x ∷ es) zero d l j = refl
-entry_at (x ∷ es) (suc i) d l j = entry_at es i d (omega arith) j
+-- nothing else is at a place
+pub update_same : {A : Type 0} (i : ℕ) (f : ℕ → A) → update i (f i) f ≡ f
+update_same i f = fun_ext (λ j. ⊎_elim (λ e. rw (eq-eqb j i e) (ap f (sym e))) (λ ne. rw (ne_eqb j i ne)) (cases_eq j i))
 
--- as they are read
-pub entries_read : (es : List Entries) (n i : ℕ) (e : Entries) → n ≡ i → n < length es → e ≡ get_or es n e → entry_in es i ≡ entry_of e
-entries_read es n i e q l r = ap (entry_in es) (sym q) ∙ fun_ext (entry_at es n e l) ∙ ap entry_of (sym r)
+module _ (ps : List Place) (i : ℕ) (p : Place) (inside : i < length ps) where
+  -- what is read of a place is what the register has of its index
+  pub head_read : slot_of (get_or ps i p).head ≡ head_in ps i
+  head_read = grind (arith, common_steps, gets)
 
-pub entry_same : (es : List Entries) (i : ℕ) (e : Entries) → i < length es → (j : ℕ) → entry_in (set es i e) i j ≡ entry_of e j
-entry_same [] i e l j = absurd (omega arith)
-entry_same (x ∷ es) zero e l j = refl
-entry_same (x ∷ es) (suc i) e l j = entry_same es i e (omega arith) j
+  pub entry_read : entry_of (get_or ps i p).entries ≡ entry_in ps i
+  entry_read = fun_ext (λ j. grind (arith, common_steps, gets))
 
-pub entry_other : (es : List Entries) (i h : ℕ) (e : Entries) → (h ≡ i → ⊥) → (j : ℕ) → entry_in (set es i e) h j ≡ entry_in es h j
-entry_other [] i h e n j = refl
-entry_other (x ∷ es) zero zero e n j = absurd (n refl)
-entry_other (x ∷ es) zero (suc h) e n j = refl
-entry_other (x ∷ es) (suc i) zero e n j = refl
-entry_other (x ∷ es) (suc i) (suc h) e n j = entry_other es i h e (λ q. n (ap suc q)) j
+  -- what is there once this is the place of the index
+  pub head_set : (n : ℕ) → head_in (set ps i p) n ≡ update i (slot_of p.head) (head_in ps) n
+  head_set n = grind (arith, common_steps, gets)
 
-pub entry_past : (es : List Entries) (i : ℕ) → length es ≤ i → (j : ℕ) → entry_in es i j ≡ None
-entry_past [] i l j = refl
-entry_past (x ∷ es) zero l j = absurd (omega arith)
-entry_past (x ∷ es) (suc i) l j = entry_past es i (omega arith) j
+  pub entry_set : (n j : ℕ) → entry_in (set ps i p) n j ≡ update i (entry_of p.entries) (entry_in ps) n j
+  entry_set n j = grind (arith, common_steps, gets)
 
--- one index more is gone over
-pub next_index : (es os : List Entries) (n : ℕ) (y : Entries) (A : ℕ → ℕ → Option ℕ) → n < length es
-    → ((j : ℕ) → entry_of y j ≡ A n j)
-    → ((i j : ℕ) → i < n → entry_in es i j ≡ A i j) → ((i j : ℕ) → n ≤ i → entry_in es i j ≡ entry_in os i j)
-    → ((i j : ℕ) → i < n + 1 → entry_in (set es n y) i j ≡ A i j) × ((i j : ℕ) → n + 1 ≤ i → entry_in (set es n y) i j ≡ entry_in os i j)
-next_index es os n y A l new done left = (
-  (λ i j h. ⊎_elim
-      (λ e. ap (λ m. entry_in (set es n y) m j) e ∙ entry_same es n y l j ∙ new j ∙ ap (λ m. A m j) (sym e))
-      (λ ne. entry_other es n i y ne j ∙ done i j (omega arith))
-      (cases_eq i n)),
-  (λ i j h. entry_other es n i y (λ e. omega arith) j ∙ left i j (omega arith)),
-)
+-- past the last place there is nothing
+module _ (s : codes.Register) (i : ℕ) (beyond : 8 ≤ i) where
+  none_past : slice_get s.places i ≡ None
+  none_past = slice_get_past s.places i (let z = s.places_long in omega arith)
 
--- what is done to the entry of one key, where the entries before are known otherwise
-pub changed : (k : ℕ) (F : Option ℕ → Option ℕ) (f g : ℕ → Option ℕ) → ((j : ℕ) → f j ≡ g j) → (j : ℕ) → update k (F (f k)) f j ≡ update k (F (g k)) g j
-changed k F f g e j = ap₂ (λ a b. cond (eqb j k) (F a) b) (e k) (e j)
+  pub no_head_past : head_in s.places i ≡ gone
+  no_head_past = ap (λ (o : Option Place). slot_of (option_and_then (λ (p : Place). p.head) o)) none_past
 
--- nothing is done to the entry of a key
-pub unchanged : (k : ℕ) (f : ℕ → Option ℕ) (j : ℕ) → f j ≡ update k (f k) f j
-unchanged k f j = ⊎_elim (λ e. rw (eq-eqb j k e) (ap f e)) (λ ne. rw (ne_eqb j k ne)) (cases_eq j k)
-
--- the entries of one more index
-pub none_more : (es : List Entries) (e : Entries) → ((i j : ℕ) → entry_in es i j ≡ None) → ((j : ℕ) → entry_of e j ≡ None) → (i j : ℕ) → entry_in (es ++ (e ∷ [])) i j ≡ None
-none_more [] e n m zero j = m j
-none_more [] e n m (suc i) j = refl
-none_more (x ∷ es) e n m zero j = n zero j
-none_more (x ∷ es) e n m (suc i) j = none_more es e (λ i j. n (suc i) j) m i j
-
-no_head : (n i : ℕ) → head_in (replicate n None) i ≡ gone
-no_head zero i = refl
-no_head (suc n) zero = refl
-no_head (suc n) (suc i) = no_head n i
-
-pub all_bare : (rows : Rows) (es : List Entries) → ((j : ℕ) → row_of rows j ≡ None) → ((i j : ℕ) → entry_in es i j ≡ None)
-    → ◌≡◌ {A = Register} (record { row = row_of rows; entry = entry_in es; head = head_in (replicate 8 None); epoch = 0 }) bare
-all_bare rows es r e = λ i. record { row = fun_ext r i; entry = fun_ext (λ x. fun_ext (e x)) i; head = fun_ext (no_head 8) i; epoch = 0 }
-
--- a row is written, and what follows from it to the entries
-pub all_wrote : (R : Register) (k : ℕ) (n : Option Row) (ss : List ℕ) (row : ℕ → Option Row) (entry : ℕ → ℕ → Option ℕ) → ((j : ℕ) → row j ≡ update k n R.row j) → ((i j : ℕ) → entry i j ≡ (wrote k n ss R).entry i j)
-    → ◌≡◌ {A = Register} (record { row = row; entry = entry; head = R.head; epoch = R.epoch }) (wrote k n ss R)
-all_wrote R k n ss row entry r e = λ t. record { row = fun_ext r t; entry = fun_ext (λ i. fun_ext (e i)) t; head = R.head; epoch = R.epoch }
+  pub no_entries_past : (k : ℕ) → entry_in s.places i k ≡ None
+  no_entries_past k = ap (option_and_then (λ (p : Place). entry_of p.entries k)) none_past
 
 -- stages of the code's own are stages, one for each index
 low : (s : Stage) → leb (rank s) 3 ≡ true
@@ -103,40 +66,42 @@ unfolding all_stages
 all_low [] = refl
 all_low (s ∷ ss) = rw (low s) (all_low ss)
 
-as_many : (ss : List Stage) → length (ranks ss) ≡ length ss
-as_many [] = refl
-as_many (s ∷ ss) = ap suc (as_many ss)
-
 pub are_stages_lem : (n : ℕ) (ss : List Stage) → length ss ≡ n → are_stages n (ranks ss) ≡ true
-are_stages_lem n ss e = and_from (eqb (length (ranks ss)) n) (all_stages (ranks ss)) (eq-eqb (length (ranks ss)) n (as_many ss ∙ e)) (all_low ss)
+are_stages_lem n ss e = and_from (eqb (length (ranks ss)) n) (all_stages (ranks ss)) (eq-eqb (length (ranks ss)) n (length-map ss rank ∙ e)) (all_low ss)
 
--- whether one index refuses a row, by what is read of it
-pub refusal_at : (hs : List (Option Index)) (es : List Entries) (ss : List Stage) (k : ℕ) (row : Row) (n : ℕ) (d : Option Index) (e : Entries) → n < length hs → n < length es → e ≡ get_or es n e
-    → refuses 4096 (slot_of (get_or hs n d)) (rank (get_or ss n Absent)) k (cell_of (slot_of (get_or hs n d)) (Some row)) (entry_of e)
-    ≡ refuses 4096 (head_in hs n) (get_or (ranks ss) n 0) k (cell_of (head_in hs n) (Some row)) (entry_in es n)
-refusal_at hs es ss k row n d e l m is =
-    ap (λ h. refuses 4096 (slot_of h) (rank (get_or ss n Absent)) k (cell_of (slot_of h) (Some row)) (entry_of e)) (get_or_default hs n d None l)
-    ∙ ap₂ (λ s f. refuses 4096 (head_in hs n) s k (cell_of (head_in hs n) (Some row)) f) (sym (rank_at ss n)) (sym (entries_read es n n e refl m is))
+-- the place of an index that is not there
+pub record IsBare (p : Place) : Type 0 where
+  pub head : p.head ≡ None
+  pub entries : (j : ℕ) → entry_of p.entries j ≡ None
 
--- the stage of one index, by what is read of it
-pub stage_read : (hs : List (Option Index)) (n : ℕ) (d : Option Index) (s : ℕ) → n < length hs → s ≡ stage_of (slot_of (get_or hs n d)) → s ≡ stage_of (head_in hs n)
-stage_read hs n d s l e = e ∙ ap (λ h. stage_of (slot_of h)) (get_or_default hs n d None l)
+no_entry : (j : ℕ) (o : Option Place) → ((p : Place) → o ≡ Some p → IsBare p) → option_and_then (λ (p : Place). entry_of p.entries j) o ≡ None
+no_entry j None b = refl
+no_entry j (Some p) b = (b p refl).entries j
 
--- the head of an index, once it is read and is there
-pub head_read : (s : codes.Register) (i n : ℕ) (d : Option Index) (x : Index) → i < 8 → n ≡ i → get_or s.heads n d ≡ Some x → head_in s.heads i ≡ head_of x
-head_read s i n d x small e there =
-    let inside : n < length s.heads = let z = s.heads_long in omega arith in
-    ap (λ m. slot_of (get_or s.heads m None)) (sym e) ∙ ap slot_of (get_or_default s.heads n None d inside ∙ there)
+no_head : (o : Option Place) → ((p : Place) → o ≡ Some p → IsBare p) → slot_of (option_and_then (λ (p : Place). p.head) o) ≡ gone
+no_head None b = refl
+no_head (Some p) b = ap slot_of (b p refl).head
 
--- a register whose entries were lent as us and came back as ws
-module _ (s : codes.Register) (us ws : List Entries) (long : length ws ≡ length us) (value : us ≡ vec_items s.entries) where
-  back : Lent s.entries us ws
-  back = record { long = long; value = value }
+pub all_bare : (rows : Table Row) (ps : List Place) → ((j : ℕ) → row_of rows j ≡ None) → ((i : ℕ) (p : Place) → i < length ps → IsBare (get_or ps i p))
+    → ◌≡◌ {A = Register} (record { row = row_of rows; entry = entry_in ps; head = head_in ps; epoch = 0 }) bare
+all_bare rows ps r b =
+    let at : (i : ℕ) (p : Place) → slice_get ps i ≡ Some p → IsBare p = λ i p e. subst IsBare (get_or_from_slice_get ps i p p e) (b i p (slice_get_within ps i p e)) in
+    λ t. record {
+      row = fun_ext r t;
+      entry = fun_ext (λ i. fun_ext (λ j. no_entry j (slice_get ps i) (at i))) t;
+      head = fun_ext (λ i. no_head (slice_get ps i) (at i)) t;
+      epoch = 0;
+    }
 
-  pub still_long : length (with_items s.entries ws).items ≡ 8
-  still_long = lent_length s.entries us ws back ∙ s.entries_long
+-- the stages of all indexes, read one by one
+stages-at : (n : ℕ) (r : Register) → stages_now n r ≡ map (λ i. stage_of (r.head i)) (range_with_len 0 n)
+unfolding stages_now
+stages-at zero r = refl
+stages-at (suc n) r = ap (λ ss. ss ++ (stage_of (r.head n) ∷ [])) (stages-at n r) ∙ sym (map-range_with_len_more (λ i. stage_of (r.head i)) 0 n n (zero-add n)) ∙ ap (λ m. map (λ i. stage_of (r.head i)) (range_with_len 0 m)) (add-one n)
 
-  -- what was done to them, said of the register's own
-  pub came_back : {X : Type 0} (A : X → List Entries → ℕ → ℕ → Option ℕ) (x y : X) → x ≡ y → ((i j : ℕ) → entry_in ws i j ≡ A x us i j)
-      → (i j : ℕ) → entry_in (with_items s.entries ws).items i j ≡ A y (vec_items s.entries) i j
-  came_back A x y e did i j = ap (λ es. entry_in es i j) (lent s.entries us ws back) ∙ did i j ∙ ap₂ (λ z es. A z es i j) e value
+pub stages_told : (ss : List Stage) (n : ℕ) (r : Register) → length ss ≡ n → ((i : ℕ) → i < n → rank (get_or ss i Absent) ≡ stage_of (r.head i)) → ranks ss ≡ stages_now n r
+stages_told ss n r long each = fill_by_all (λ i. stage_of (r.head i)) (ranks ss) n 0 (length-map ss rank ∙ long) (λ i l. rank_at ss i ∙ each i l) ∙ sym (stages-at n r)
+
+-- what is read of a place through a reference to it
+pub head_lent : (refs : List (Bor Place)) (ps : List Place) → map (λ r. r.now) refs ≡ ps → (i : ℕ) (d : Bor Place) → i < length ps → slot_of (get_or refs i d).now.head ≡ head_in ps i
+head_lent refs ps e i d l = ap (λ (p : Place). slot_of p.head) (sym (get_or-map (λ (r : Bor Place). r.now) refs i d) ∙ ap (λ xs. get_or xs i d.now) e) ∙ head_read ps i d.now l

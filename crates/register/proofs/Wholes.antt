@@ -1,7 +1,7 @@
 -- A register in which nothing is wrong is a good one with nobody in any stage, and a good one is whole, whoever is in a stage.
 use Rattle.std.proofs.Common.{◌≡◌, ℕ, ◌<◌, ◌≤◌, true, None, Option, refl, ap, arith}
 use Rattle.table.specs.declared.row.Row.{Row}
-use Rattle.table.specs.Layout.{value_in}
+use Rattle.table.specs.Columns.{value_in}
 use Rattle.change.specs.Protocol.{Way, Head, gone, there, up, down, stage_of, done_of, ByStage}
 use Rattle.change.specs.Index.{About, unique_of, NoOrphan, NoneTwice}
 use Rattle.change.proofs.IndexKind.{empty, kind}

@@ -1,33 +1,31 @@
 -- The code's register and records as the rules see them.
-use Rattle.std.specs.Prelude.{◌≡◌, ℕ, zero, suc, ◌+◌, ◌^◌, Bool, true, false, ◌&&◌, List, [], ◌∷◌, None, Ok, Err, vec_items, Option, Result, nat_lt, slice_index_or}
-use Rattle.table.specs.declared.owners.Entries.{Entries}
+use Rattle.std.specs.Prelude.{◌≡◌, ℕ, ◌+◌, ◌^◌, Bool, true, false, ◌&&◌, List, [], ◌∷◌, None, Ok, Err, Some, Option, Result, nat_lt, slice_get, option_and_then}
 use Rattle.table.specs.Held.{row_of, entry_of}
 use Rattle.change.specs.declared.kinds.Index.{Index}
-use Rattle.table.specs.Update.{update}
-use Rattle.change.specs.Protocol.{Head, onward}
+use Rattle.change.specs.Protocol.{Head}
 use Rattle.change.specs.Index.{About}
+use Rattle.change.specs.OneChange.{is_none}
 use Rattle.change.specs.declared.kinds.Refusal.{Refusal}
-use Rattle.change.specs.Heads.{head_of, slot_of, number_of}
+use Rattle.change.specs.Heads.{slot_of, number_of}
 use Rattle.stage.specs.Stages.{ranks}
 use Rattle.register.specs.declared.kinds.Record.{Record}
 use Rattle.register.specs.declared.kinds.Record.TheVariants.{Put, Removed, Made, WentUp, Turned, WentDown, Filled, Cleared, CameUp}
+use Rattle.register.specs.declared.place.Place.{Place}
 use Rattle.register.specs.declared.owner.Register.{Register}
 use Rattle.register.specs.Registers as rules
 use Rattle.register.specs.Registers.{put, removed, made, went_up, turned, went_down, filled, cleared, came_up, doable}
 
 -- the entries of each index, key by key
-abbrev pub entry_in : List Entries → (index key : ℕ) → Option ℕ
-entry_in [] i k = None
-entry_in (e ∷ es) zero k = entry_of e k
-entry_in (e ∷ es) (suc i) k = entry_in es i k
+abbrev pub entry_in : List Place → (index key : ℕ) → Option ℕ
+entry_in ps i k = option_and_then (λ (p : Place). entry_of p.entries k) (slice_get ps i)
 
 -- the head of each index
-abbrev pub head_in : List (Option Index) → (index : ℕ) → Head About
-head_in hs i = slot_of (slice_index_or hs i None)
+abbrev pub head_in : List Place → (index : ℕ) → Head About
+head_in ps i = slot_of (option_and_then (λ (p : Place). p.head) (slice_get ps i))
 
 -- the register
 abbrev pub register_of : Register → rules.Register
-register_of r = record { row = row_of r.rows; entry = entry_in (vec_items r.entries); head = head_in r.heads; epoch = r.epoch }
+register_of r = record { row = row_of r.rows; entry = entry_in r.places; head = head_in r.places; epoch = r.epoch }
 
 -- a record
 abbrev pub record_of : Record → rules.Record
@@ -72,7 +70,18 @@ abbrev pub Replayed : {X : Type 0} → Result X Refusal → List rules.Record �
 Replayed (Ok u) xs r s = (can_do_all xs r ≡ true) × (s ≡ rules.replayed xs r)
 Replayed (Err e) xs r s = (can_do_all xs r ≡ false) × (number_of e ≡ 1)
 
--- backfill, or cleanup, of one key of an index is done where it may be; else nothing changes
-abbrev pub OneKey : {Y : Type 0} → Result Index Y → (may : Bool) → Head About → (index : ℕ) → (entries : ℕ → Option ℕ) → (before after : List Entries) → Type 0
-OneKey (Ok x) may h i es os fs = (may ≡ true) × (head_of x ≡ onward h) × ((n j : ℕ) → entry_in fs n j ≡ update i es (entry_in os) n j)
-OneKey (Err e) may h i es os fs = (may ≡ false) × ((n j : ℕ) → entry_in fs n j ≡ entry_in os n j)
+-- a step of one index is done where it may be, and leaves the index this head and these entries; else nothing changes
+abbrev pub OneStep : {X Y : Type 0} → Result X Y → (may : Bool) → Head About → (entries : ℕ → Option ℕ) → (before after : Place) → Type 0
+OneStep (Ok u) may h es p q = (may ≡ true) × (slot_of q.head ≡ h) × ((j : ℕ) → entry_of q.entries j ≡ es j)
+OneStep (Err e) may h es p q = (may ≡ false) × (slot_of q.head ≡ slot_of p.head) × ((j : ℕ) → entry_of q.entries j ≡ entry_of p.entries j)
+
+-- a step of the head alone is done where nothing is against it
+abbrev pub HeadStep : {X Y : Type 0} → Result X Y → (why_not : Head About → Option ℕ) → (next : Head About → Head About) → (before after : Place) → Type 0
+HeadStep r why_not next p q = OneStep r (is_none (why_not (slot_of p.head))) (next (slot_of p.head)) (entry_of p.entries) p q
+
+-- what is answered of a head is the head from then on; where the answer is a refusal, or no index is there, nothing changes
+abbrev pub HeadFrom : (Index → Result (Option Index) Refusal → Type 0) → {X : Type 0} → Result X Refusal → (before after : Option Index) → Type 0
+HeadFrom answers (Ok u) None h = ⊥
+HeadFrom answers (Ok u) (Some x) h = answers x (Ok h)
+HeadFrom answers (Err e) None h = h ≡ None
+HeadFrom answers (Err e) (Some x) h = answers x (Err e) × (h ≡ Some x)

@@ -2,7 +2,7 @@
 use Rattle.std.specs.Prelude.{◌≡◌, ℕ, zero, suc, ◌+◌, Bool, true, false, cond, not, ◌&&◌, List, [], ◌∷◌, ◌++◌, length, Some, None, Option, ◌==◌, nat_le, nat_lt, slice_index}
 use Rattle.table.specs.declared.row.Row.{Row}
 use Rattle.table.specs.Update.{update}
-use Rattle.table.specs.Layout.{value_in}
+use Rattle.table.specs.Columns.{value_in}
 use Rattle.change.specs.Protocol.{Head, gone, there, up, stage_of, done_of, raised, turned_down, lowered, onward, why_not_make, why_not_up, why_not_turn, why_not_down, why_not_fill, why_not_clear}
 use Rattle.change.specs.Index.{About, refuses, entries_written, backfilled, cleaned_up, must_turn}
 use Rattle.change.specs.OneChange.{is_none}

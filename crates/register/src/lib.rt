@@ -2,14 +2,13 @@
 
 #![tactic(auto)]
 
-mod follow;
 mod kinds;
 mod owner;
+mod place;
 mod reads;
 mod steps;
 mod theorems;
 mod whole;
-mod work;
 
 pub use kinds::Record;
 pub use owner::Register;

@@ -2,17 +2,15 @@
 
 ghost use Rattle.std.specs.Prelude.{◌≡◌, length};
 
-use change::Index;
+use super::place::Place;
 use stage::INDEXES;
-use table::{Entries, Rows};
+use table::Rows;
 
-/// The rows, the entries and the head of each index, and how often the store has come up.
+/// The rows, the place of each index, and how often the store has come up.
 #[derive(Drop)]
 pub struct Register {
     pub(super) rows: Rows,
-    pub(super) entries: Vec<Entries>,
-    pub(super) heads: [Option<Index>; INDEXES],
+    pub(super) places: [Place; INDEXES],
     pub(super) epoch: u64,
-    ghost entries_long: { length entries.items ≡ 8 },
-    ghost heads_long: { length heads ≡ 8 },
+    ghost places_long: { length places ≡ 8 },
 }

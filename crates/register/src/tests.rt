@@ -1,10 +1,9 @@
 //! Records done to the register: at the edges, in each stage, and where they cannot be done.
 
 use super::*;
-use change::Refusal;
 use keyset::Key;
 use stage::{INDEXES, Slot, Stage};
-use std::alloc::{AllocError, Global};
+use std::alloc::Global;
 use std::test::Fail;
 use table::{Column, Row};
 
@@ -32,67 +31,36 @@ fn row(value: u32) -> Row {
 
 fn record(step: Step) -> Option<Record> {
     let index = Slot::new(7)?;
-    match step {
+    Some(match step {
         Step::Put(key, value, stage) => {
-            let key = Key::new(key)?;
-            Some(Record::Put(key, row(value), [stage; INDEXES]))
+            Record::Put(Key::new(key)?, row(value), [stage; INDEXES])
         }
-        Step::Remove(key, stage) => {
-            let key = Key::new(key)?;
-            Some(Record::Removed(key, [stage; INDEXES]))
-        }
-        Step::Make(unique) => {
-            let column = Column::new(0)?;
-            Some(Record::Made(index, column, unique))
-        }
-        Step::Up => Some(Record::WentUp(index)),
-        Step::Turn => Some(Record::Turned(index)),
-        Step::Down => Some(Record::WentDown(index)),
-        Step::Fill(key) => {
-            let key = Key::new(key)?;
-            Some(Record::Filled(index, key))
-        }
-        Step::Clear(key) => {
-            let key = Key::new(key)?;
-            Some(Record::Cleared(index, key))
-        }
-    }
+        Step::Remove(key, stage) => Record::Removed(Key::new(key)?, [stage; INDEXES]),
+        Step::Make(unique) => Record::Made(index, Column::new(0)?, unique),
+        Step::Up => Record::WentUp(index),
+        Step::Turn => Record::Turned(index),
+        Step::Down => Record::WentDown(index),
+        Step::Fill(key) => Record::Filled(index, Key::new(key)?),
+        Step::Clear(key) => Record::Cleared(index, Key::new(key)?),
+    })
 }
 
-// The number of the refusal, 0 where there is none.
-fn number(r: Result<(), Refusal>) -> u8 {
-    match r {
-        Ok(()) => 0,
-        Err(refusal) => refusal.number(),
-    }
-}
-
-fn did(r: &mut Register, step: Step) -> u8 {
-    match record(step) {
-        Some(what) => number(r.apply(what)),
-        None => 255,
-    }
+// The number of the refusal, 0 where there is none; None where there is no such record.
+fn did(r: &mut Register, step: Step) -> Option<u8> {
+    Some(r.apply(record(step)?).err().map_or(0, u8::from))
 }
 
 // Whether each of these steps is refused by its number, or done where that is 0, with nothing wrong after any.
 fn whole_after(r: &mut Register, steps: &[(Step, u8)]) -> bool {
-    for (step, refused) in steps {
-        if did(r, *step) != *refused || !r.is_whole() {
-            return false;
-        }
-    }
-    true
+    steps.iter().all(|(step, refused)| did(r, *step) == Some(*refused) && r.is_whole())
 }
 
-// Backfill, or else cleanup, of all keys: how many were done.
-fn work(r: &mut Register, fill: bool) -> u16 {
+// A step of all keys: how many were done. In a loop, since a chain whose test changes the register is not proved.
+fn work<F: Fn(u16) -> Step>(r: &mut Register, step: F) -> u16
+    requires { F.IsAlwaysCallable step }
+{
     for key in 0..4096 {
-        let step = if fill {
-            Step::Fill(key)
-        } else {
-            Step::Clear(key)
-        };
-        if did(r, step) != 0 {
+        if did(r, step(key)) != Some(0) {
             return key;
         }
     }
@@ -101,25 +69,18 @@ fn work(r: &mut Register, fill: bool) -> u16 {
 
 // What a key's row has in the first column.
 fn value(r: &Register, key: u16) -> Option<u32> {
-    let key = Key::new(key)?;
-    let row = r.row(key)?;
-    Some(row.columns[0])
+    Some(r.row(Key::new(key)?)?.columns[0])
 }
 
 // How many keys the last index has for a value.
-fn found(heap: Global, r: &Register, value: u32) -> Result<usize, AllocError> {
-    match Slot::new(7) {
-        Some(index) => Ok(r.keys_by_index(heap, index, value)?.len()),
-        None => Ok(0),
-    }
+fn found(heap: Global, r: &Register, value: u32) -> Result<usize, Fail> {
+    let index = Slot::new(7).ok_or("no index 7")?;
+    Ok(r.keys_by_index(heap, index, value)?.len())
 }
 
 // Whether a row is refused to somebody who knows all indexes in that stage.
 fn refuses(r: &Register, key: u16, value: u32, stage: Stage) -> bool {
-    match Key::new(key) {
-        Some(key) => r.refuses(&[stage; INDEXES], key, row(value)),
-        None => true,
-    }
+    Key::new(key).is_none_or(|key| r.refuses(&[stage; INDEXES], key, row(value)))
 }
 
 #[test]
@@ -169,7 +130,7 @@ fn up_and_back(rt: HostRuntime) -> Result<(), Fail> {
         )
     );
     assert_eq!(rt; found(heap, &r, 6)?, 1);
-    assert_eq!(rt; work(&mut r, true), 4096);
+    assert_eq!(rt; work(&mut r, Step::Fill), 4096);
     assert!(rt;
         whole_after(
             &mut r,
@@ -196,7 +157,7 @@ fn up_and_back(rt: HostRuntime) -> Result<(), Fail> {
         )
     );
     assert_eq!(rt; found(heap, &r, 7)?, 1);
-    assert_eq!(rt; work(&mut r, false), 4096);
+    assert_eq!(rt; work(&mut r, Step::Clear), 4096);
     assert!(rt; whole_after(&mut r, &[(Step::Down, 0), (Step::Down, 0), (Step::Down, 6)]));
     assert_eq!(rt; found(heap, &r, 7)?, 0);
     assert_eq!(rt; value(&r, 3), Some(7));
@@ -222,10 +183,10 @@ fn unique_refuses(rt: HostRuntime) -> Result<(), Fail> {
     assert!(rt; refuses(&r, 8, 5, Stage::WriteOnly) && !refuses(&r, 8, 5, Stage::DeleteOnly));
     assert!(rt; !refuses(&r, 9, 5, Stage::WriteOnly) && !refuses(&r, 8, 6, Stage::Public));
     // Two rows with one value, and then an entry that is not its row's.
-    assert_eq!(rt; did(&mut r, Step::Put(8, 5, Stage::WriteOnly)), 0);
+    assert_eq!(rt; did(&mut r, Step::Put(8, 5, Stage::WriteOnly)), Some(0));
     assert!(rt; !r.is_whole());
     assert!(rt; whole_after(&mut r, &[(Step::Remove(8, Stage::Public), 0)]));
-    assert_eq!(rt; did(&mut r, Step::Put(9, 6, Stage::Absent)), 0);
+    assert_eq!(rt; did(&mut r, Step::Put(9, 6, Stage::Absent)), Some(0));
     assert!(rt; !r.is_whole());
     Ok(())
 }

@@ -1,18 +1,19 @@
 //! Whether a register is one that a store may come up with.
 
-ghost use Rattle.std.specs.Prelude.{◌≡◌, ℕ, ◌<◌, length};
+ghost use Rattle.std.specs.Prelude.{◌≡◌, ℕ, ◌<◌};
 ghost use Rattle.table.specs.Held.{row_of, entry_of};
-ghost use Rattle.table.specs.Layout.{value_in};
+ghost use Rattle.table.specs.Columns.{value_in};
 ghost use Rattle.change.specs.Heads.{head_of, slot_of};
 ghost use Rattle.register.specs.Whole.{Whole, Tells, empty_to, full_to};
 ghost use Rattle.register.specs.Right.{EntryRight, KeyRight, IndexRight};
-ghost use Rattle.register.specs.Held.{register_of, entry_in, head_in};
+ghost use Rattle.register.specs.Held.{register_of};
 
 use super::owner::Register;
+use super::place::Place;
 use change::{Index, Way};
 use keyset::{KEYS, Key};
-use stage::{INDEXES, Stage};
-use table::{Column, Entries, Row, Rows};
+use stage::Stage;
+use table::Rows;
 
 impl Register {
     /// Whether nothing is wrong in the register: rows and indexes are in range, no entry is without its row, none is
@@ -20,7 +21,7 @@ impl Register {
     pub fn is_whole(&self) -> bool
         ensures { Tells result (Whole 4096 8 (register_of self.now)) }
     {
-        are_right(&self.heads, &self.rows, self.entries.as_slice())
+        self.places.iter().all(|place| place.is_right(&self.rows))
     }
 }
 
@@ -46,80 +47,39 @@ fn full_to(head: Index) -> u16
     }
 }
 
-/// What a row has in a column, if it is there.
-fn cell(row: Option<Row>, column: Column) -> Option<u32>
-    ensures { result ≡ value_in column.number row }
-{
-    match row {
-        Some(row) => Some(row.value(column)),
-        None => None,
-    }
-}
-
-/// Whether an entry is its row's own, is not there below one key, and is there below another.
-fn entry_is_right(key: u16, entry: Option<u32>, cell: Option<u32>, empty: u16, full: u16) -> bool
-    ensures { Tells result (EntryRight key entry cell empty full) }
+/// Whether a key's entry is its row's own, and is there or not as the index's head says.
+fn entry_is_right(head: Index, key: Key, entry: Option<u32>, cell: Option<u32>) -> bool
+    ensures { Tells result (EntryRight key.number entry cell (empty_to 4096 (head_of head)) (full_to 4096 (head_of head))) }
 {
     match (entry, cell) {
-        (Some(value), Some(own)) => value == own && empty <= key,
+        (Some(value), Some(own)) => value == own && empty_to(head) <= key.number(),
         (Some(_), None) => false,
-        (None, Some(_)) => full <= key,
+        (None, Some(_)) => full_to(head) <= key.number(),
         (None, None) => true,
     }
 }
 
-/// Whether a key's entry in an index is right.
-fn key_is_right(slot: Option<Index>, rows: &Rows, entries: &Entries, key: Key) -> bool
-    ensures { Tells result (KeyRight 4096 (slot_of slot) (row_of rows.now key.number) (entry_of entries.now) key.number) }
-{
-    let entry = entries.get(key);
-    let Some(head) = slot else {
-        return entry.is_none();
-    };
-    if !entry_is_right(
-        key.number(),
-        entry,
-        cell(rows.get(key), head.column),
-        empty_to(head),
-        full_to(head),
-    ) {
-        return false;
-    }
-    match entry {
-        Some(value) if head.unique => !entries.taken_by_other(value, key),
-        _ => true,
-    }
-}
-
-/// Whether all entries of an index are right.
-fn index_is_right(slot: Option<Index>, rows: &Rows, entries: &Entries) -> bool
-    ensures { Tells result (IndexRight 4096 (slot_of slot) (row_of rows.now) (entry_of entries.now)) }
-{
-    if let Some(head) = slot {
-        if head.done > KEYS {
-            return false;
-        }
-    }
-    for number in 0..KEYS {
-        let Some(key) = Key::new(number) else {
-            return false;
+impl Place {
+    /// Whether a key's entry is right.
+    fn key_is_right(&self, rows: &Rows, key: Key) -> bool
+        ensures { Tells result (KeyRight 4096 (slot_of self.now.head) (row_of rows.now key.number) (entry_of self.now.entries) key.number) }
+    {
+        let entry = self.entries.get(key);
+        let Some(head) = self.head else {
+            return entry.is_none();
         };
-        if !key_is_right(slot, rows, entries, key) {
-            return false;
-        }
+        let cell = rows.get(key).map(|row| row.value(head.column));
+        entry_is_right(head, key, entry, cell)
+            && !(head.unique && entry.is_some_and(|value| self.entries.taken_by_other(value, key)))
     }
-    true
-}
 
-/// Whether all entries of all indexes are right.
-fn are_right(heads: &[Option<Index>; INDEXES], rows: &Rows, entries: &[Entries]) -> bool
-    requires { length entries.now ≡ 8 }
-    ensures { Tells result ((i : ℕ) → i < 8 → IndexRight 4096 (head_in heads.now i) (row_of rows.now) (entry_in entries.now i)) }
-{
-    for i in 0..INDEXES {
-        if !index_is_right(heads[i], rows, &entries[i]) {
-            return false;
-        }
+    /// Whether all entries of the index are right.
+    fn is_right(&self, rows: &Rows) -> bool
+        ensures { Tells result (IndexRight 4096 (slot_of self.now.head) (row_of rows.now) (entry_of self.now.entries)) }
+    {
+        self.head.is_none_or(|head| head.done <= KEYS)
+            && (0..KEYS).all(|number| {
+                Key::new(number).is_none_or(|key| self.key_is_right(rows, key))
+            })
     }
-    true
 }

@@ -1,15 +1,15 @@
 -- The same bytes have one end.
-use Rattle.std.proofs.Common.{◌≡◌, ℕ, true, List, [], ◌∷◌, ◌++◌, sym, refl, ap, ◌∙◌, subst, inl, inr, true≢false, append_assoc, arith}
+use Rattle.std.proofs.Common.{◌≡◌, ℕ, true, List, [], ◌∷◌, ◌++◌, Err, sym, refl, ap, ◌∙◌, subst, inl, inr, true≢false, append_assoc, arith}
 use Rattle.register.specs.Registers.{Register, Record, applied, replayed}
 use Rattle.register.specs.Held.{can_do, can_do_all}
-use Rattle.journal.specs.declared.kinds.Reading.TheVariants.{Part}
+use Rattle.journal.specs.declared.error.Unread.TheVariants.{Part}
 use Rattle.journal.specs.Bytes.{bytes_of, all_bytes, Writable, AllWritable, is_part}
 use Rattle.journal.proofs.Codes.{no_two, read_back}
 use Rattle.replay.specs.Laws.{Ended, OneEnd}
 
 -- a whole record is no part of one
 pub no_part : (x : Record) (more : List ℕ) → Writable x → is_part (bytes_of x ++ more) ≡ true → ⊥
-no_part x more w e = let (y, n, is, which, end) = read_back x [] more Part w e in let z : ◌≡◌ {A = ℕ} 0 1 = cc in omega arith
+no_part x more w e = let (y, n, is, which, end) = read_back x [] more (Err Part) w e in cc
 
 -- where a record stands that can be done it is not the end
 no_end : (bs more : List ℕ) (r : Register) (x : Record) → Writable x → bs ≡ bytes_of x ++ more → can_do x r ≡ true → Ended bs r → ⊥

@@ -1,5 +1,5 @@
 -- Records of one slice and of the next.
-use Rattle.std.proofs.Common.{◌≡◌, ℕ, ◌-◌, ◌<◌, ◌≤◌, true, List, [], ◌∷◌, ◌++◌, length, take, drop, sym, refl, ap, ◌∙◌, subst, append_assoc, append-nil, arith, length-append, length-drop, take_all}
+use Rattle.std.proofs.Common.{◌≡◌, ℕ, ◌<◌, ◌≤◌, true, List, [], ◌∷◌, ◌++◌, length, drop, sym, refl, ap, ◌∙◌, subst, append_assoc, append-nil, arith, length-append, length-drop}
 use Rattle.register.specs.Registers.{Register, Record, applied, replayed}
 use Rattle.register.specs.Held.{can_do, can_do_all}
 use Rattle.register.proofs.Replays.{in_parts}
@@ -50,10 +50,6 @@ further bs at e x q l =
     let c : length (drop at bs) ≡ length (bytes_of x ++ drop e bs) = ap length q in
     let d = length-append (bytes_of x) (drop e bs) in
     omega arith
-
--- a slice from a place on
-pub from_place : (n : ℕ) (xs : List ℕ) → take (length xs - n) (drop n xs) ≡ drop n xs
-from_place n xs = take_all (length xs - n) (drop n xs) (let e = length-drop n xs in omega arith)
 
 -- more bytes behind
 behind : (bs more rest : List ℕ) (r s : Register) → Played bs r rest s → Played (bs ++ more) r (rest ++ more) s

@@ -4,8 +4,8 @@ use Rattle.change.specs.Heads.{number_of}
 use Rattle.register.specs.Registers as rules
 use Rattle.register.specs.Held.{register_of}
 use Rattle.replay.specs.declared.reader.Reader.{Reader}
-use Rattle.replay.specs.declared.reader.NotRead.{NotRead}
-use Rattle.replay.specs.declared.reader.NotRead.TheVariants.{NoMemory, Refused}
+use Rattle.replay.specs.declared.error.NotRead.{NotRead}
+use Rattle.replay.specs.declared.error.NotRead.TheVariants.{NoMemory, Refused}
 use Rattle.replay.specs.Played.{Through, Refusing}
 
 -- all whole records of the bytes are done, and a part of one is kept; or the bytes are refused by 1, since something in them cannot be read or be done

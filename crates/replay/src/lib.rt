@@ -2,11 +2,13 @@
 
 #![tactic(auto)]
 
+mod error;
 mod reader;
 mod records;
 mod theorems;
 
-pub use reader::{NotRead, Reader};
+pub use error::NotRead;
+pub use reader::Reader;
 pub use records::replay;
 pub use theorems::windows_agree;
 

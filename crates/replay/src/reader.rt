@@ -5,8 +5,8 @@ ghost use Rattle.register.specs.Registers.{bare};
 ghost use Rattle.register.specs.Held.{register_of};
 ghost use Rattle.replay.specs.Windows.{Windowed};
 
+use super::error::NotRead;
 use super::records::replay;
-use change::Refusal;
 use register::Register;
 use std::alloc::{AllocError, Global};
 
@@ -15,13 +15,6 @@ use std::alloc::{AllocError, Global};
 pub struct Reader {
     pub(super) register: Register,
     pub(super) rest: Vec<u8>,
-}
-
-/// Why a window was not read.
-#[derive(Clone, Copy)]
-pub enum NotRead {
-    NoMemory,
-    Refused(Refusal),
 }
 
 impl Reader {
@@ -44,17 +37,10 @@ impl Reader {
             mut register,
             mut rest,
         } = self;
-        let Ok(()) = rest.extend_from_slice(window) else {
-            return Err(NotRead::NoMemory);
-        };
-        let done = match replay(&mut register, rest.as_slice()) {
-            Ok(done) => done,
-            Err(refusal) => return Err(NotRead::Refused(refusal)),
-        };
+        rest.extend_from_slice(window)?;
+        let done = replay(&mut register, rest.as_slice())?;
         let mut left = Vec::new(heap);
-        let Ok(()) = left.extend_from_slice(&rest.as_slice()[done..]) else {
-            return Err(NotRead::NoMemory);
-        };
+        left.extend_from_slice(&rest.as_slice()[done..])?;
         Ok(Reader {
             register,
             rest: left,

@@ -1,4 +1,4 @@
-//! Records read of one lent slice, while the rows of the register in another are written.
+//! Records read of one lent slice, and done again to the register.
 
 ghost use Rattle.std.specs.Prelude.{◌≡◌, ℕ, ◌≤◌, length};
 ghost use Rattle.register.specs.Held.{register_of};
@@ -6,35 +6,21 @@ ghost use Rattle.replay.specs.Next.{OneMore};
 ghost use Rattle.replay.specs.Played.{Answered};
 
 use change::Refusal;
-use journal::Reading;
+use journal::Unread;
 use register::Register;
 
-/// What became of the record at a place.
-#[derive(Clone, Copy)]
-pub(super) enum Next {
-    /// It is done, and ends at this place.
-    Done(usize),
-    /// There is only a part of it.
-    Part,
-    /// It cannot be read, or cannot be done.
-    Refused,
-}
-
-/// Reads the record at a place and does it.
-fn one_more(register: &mut Register, bytes: &[u8], at: usize) -> Next
+// The place stays beside the bytes: where a record ends is told as a place among all of them.
+/// Reads the record at a place and does it: where it ends, or nothing where there is only a part of it.
+fn one_more(register: &mut Register, bytes: &[u8], at: usize) -> Result<Option<usize>, Refusal>
     ensures { OneMore result bytes.now at (register_of register.old) (register_of register.new) }
 {
-    let reading = journal::decode(bytes, at);
-    if let Reading::Part = reading {
-        return Next::Part;
-    }
-    let Reading::Whole(what, end) = reading else {
-        return Next::Refused;
+    let (what, end) = match journal::decode(bytes, at) {
+        Ok(read) => read,
+        Err(Unread::Part) => return Ok(None),
+        Err(Unread::Bad) => return Err(Refusal::OutOfRange),
     };
-    let Ok(()) = register.apply(what) else {
-        return Next::Refused;
-    };
-    Next::Done(end)
+    register.apply(what).map_err(|_| Refusal::OutOfRange)?;
+    Ok(Some(end))
 }
 
 /// Does the records again that stand in these bytes, in order, up to the last whole one: how many bytes they have. What
@@ -43,12 +29,8 @@ pub fn replay(register: &mut Register, bytes: &[u8]) -> Result<usize, Refusal>
     ensures { Answered result bytes.now (register_of register.old) (register_of register.new) }
 {
     let mut at = 0;
-    while at < bytes.len() {
-        match one_more(register, bytes, at) {
-            Next::Done(end) => at = end,
-            Next::Part => return Ok(at),
-            Next::Refused => return Err(Refusal::OutOfRange),
-        }
+    while let Some(end) = one_more(register, bytes, at)? {
+        at = end;
     }
     Ok(at)
 }

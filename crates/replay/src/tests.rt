@@ -9,10 +9,7 @@ use std::test::Fail;
 fn through(heap: Global, windows: &[&[u8]]) -> Result<Reader, Fail> {
     let mut reader = Reader::new(heap)?;
     for window in windows {
-        reader = match reader.read(heap, window) {
-            Ok(reader) => reader,
-            Err(_) => return Err(Fail::new("the window was not read")),
-        };
+        reader = reader.read(heap, window)?;
     }
     Ok(reader)
 }

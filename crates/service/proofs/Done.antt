@@ -1,20 +1,13 @@
 -- A call that is granted leaves the store that the rules say.
-use Rattle.std.proofs.Common.{◌≡◌, ℕ, ◌≤◌, Bool, true, false, cond, List, length, Some, None, Option, sym, refl, ap, ◌∙◌, subst, ap₂, arith}
-use lib.ListN.{get_or-eq_default}
+use Rattle.std.proofs.Common.{◌≡◌, ℕ, ◌≤◌, Bool, true, false, cond, List, Some, None, Option, sym, refl, ap, ◌∙◌, subst, ap₂, arith}
 use Rattle.std.proofs.lemmas.Bool.{and_from}
-use Rattle.change.specs.declared.kinds.Index.{Index}
 use Rattle.change.specs.Protocol.{gone, done_of}
-use Rattle.change.specs.Heads.{slot_of}
 use Rattle.register.specs.Registers.{Register, Record, turned, filled, doable}
-use Rattle.register.specs.Held.{head_in, counts, can_do}
+use Rattle.register.specs.Held.{counts, can_do}
 use Rattle.lease.specs.Leases.{Lease}
 use Rattle.service.specs.Calls.{Store, Call, write, take_away, read, look, loan, make, raise, turn, lower, fill, clear, by_all_rows, why_not, record_of, record_by, recorded, leases_after, applied_maybe, after, turns_back}
 use Rattle.service.specs.Held.{limits, Carried}
 use Rattle.service.proofs.Records.{Held, record-can}
-
--- no index is there past the last
-pub heads_beyond : (hs : List (Option Index)) → length hs ≡ 8 → (i : ℕ) → 8 ≤ i → head_in hs i ≡ gone
-heads_beyond hs e i l = ap slot_of (get_or-eq_default hs None (omega arith))
 
 module _ (long : ℕ) (s : Store) (t : ℕ) (c : Call) (beyond : (i : ℕ) → 8 ≤ i → s.register.head i ≡ gone) (why : why_not (limits long) s t c ≡ None) where
   -- no call is a coming up

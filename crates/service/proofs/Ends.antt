@@ -5,7 +5,7 @@ use mathlib.Core.List.Memᴰ
 use native.Mathlib.Nat.{le_of_mul-le-mul_left, mul-div-le, lt-mul-div-succ, zero-div}
 use Rattle.table.specs.declared.row.Row.{Row}
 use Rattle.table.specs.Update.{update}
-use Rattle.table.specs.Layout.{value_in}
+use Rattle.table.specs.Columns.{value_in}
 use Rattle.stage.specs.Stages.{value_taken}
 use Rattle.change.specs.Protocol.{Way, up, down, Head, gone, there, raised, turned_down, lowered, onward}
 use Rattle.change.specs.Index.{About, must_turn, NoOrphan}

@@ -6,6 +6,5 @@ pub mod Answered
 pub mod Ends
 pub mod Promises
 pub mod Witness
-pub mod Claims
 pub mod Done
 pub mod Runs

@@ -1,10 +1,10 @@
 -- Running stores go on, and have the promises.
-use Rattle.std.proofs.Common.{◌≡◌, ℕ, ◌-◌, ◌*◌, ◌≤◌, List, [], ◌∷◌, IfOk, Ok, Err, Result, sym, refl, ap, ◌∙◌, subst, ap₂, true≢false, mul-le-mul_right, add-mul, arith, lit≤, MatchResult}
+use Rattle.std.proofs.Common.{◌≡◌, ℕ, ◌-◌, ◌*◌, ◌≤◌, List, [], ◌∷◌, IfOk, Ok, Err, Result, sym, refl, ap, ◌∙◌, subst, ap₂, mul-le-mul_right, add-mul, arith, lit≤, MatchResult}
 use mathlib.Core.Logic.{∥∥₁_elim, ∥∥₁_map}
 use mathlib.Core.List.{is_set}
 use native.Mathlib.Nat.{ℕ_set}
 use Rattle.std.specs.declared.alloc.AllocError.{AllocError}
-use Rattle.register.specs.Held.{register_of, can_do, Applied}
+use Rattle.register.specs.Held.{register_of}
 use Rattle.lease.specs.Clocks.{Counts, Fit, Fits}
 use Rattle.register.specs.Registers.{Register, bare, applied, came_up, replayed, rows_of}
 use Rattle.table.specs.Update.{keys_for}
@@ -99,22 +99,20 @@ module _ (long short rate : ℕ) where
       (promise.answers x.up).looking o c i v ks q ∙ ap (λ (z : Register). keys_for 4096 (rows_of i z) v) same)
 
 -- a call of the code's own, at a later reading
-module _ (long short rate : ℕ) (fits : Fits long short rate) (x y : State) (same : x.long ≡ long) (n t : ℕ) (h : n ≤ t) (call : codes.Call) (reached : ∥ Reached long short rate (store_of x) n ∥₁) where
-  abbrev Did : Result Pending AllocError → ℕ → Type 0
-  Did r long = MatchResult r (λ p. Called long (store_of x) (store_of y) t call p.answer p.what) (λ _. store_of y ≡ store_of x)
+module _ (x y : State) (same : y.times ≡ x.times) (n t : ℕ) (h : n ≤ t) (call : codes.Call) (reached : ∥ Reached x.times.long x.times.short x.times.rate (store_of x) n ∥₁) where
+  abbrev Did : Result Pending AllocError → Type 0
+  Did r = MatchResult r (λ p. Called x.times.long (store_of x) (store_of y) t call p.answer p.what) (λ _. store_of y ≡ store_of x)
 
-  pub goes_on : (r : Result Pending AllocError) → Did r x.long → ∥ Reached long short rate (store_of y) t ∥₁
-  goes_on (Ok p) d = called long short rate (store_of x) (store_of y) n t (call_of call) h (subst (λ l. store_of y ≡ after (limits l) (store_of x) t (call_of call)) same d.leaves) reached
-  goes_on (Err e) d = waited long short rate (store_of x) (store_of y) n t h d reached
+  stays_reached : (r : Result Pending AllocError) → Did r → ∥ Reached x.times.long x.times.short x.times.rate (store_of y) t ∥₁
+  stays_reached (Ok p) d = called x.times.long x.times.short x.times.rate (store_of x) (store_of y) n t (call_of call) h d.leaves reached
+  stays_reached (Err e) d = waited x.times.long x.times.short x.times.rate (store_of x) (store_of y) n t h d reached
 
-  pub finds : (r : Result Pending AllocError) → Did r x.long
+  pub goes_on : (r : Result Pending AllocError) → Did r → ∥ Reached y.times.long y.times.short y.times.rate (store_of y) t ∥₁
+  goes_on r d = rw same (stays_reached r d)
+
+  pub finds : (r : Result Pending AllocError) → Did r
       → IfOk r (λ p. (o : ℕ) (c : Claim) (i v : ℕ) (ks : List ℕ) → call_of call ≡ look o c i v → answer_of p.answer ≡ found ks → ks ≡ keys_for 4096 (rows_of i (register_of x.register)) v)
   finds (Ok p) d = λ o c i v ks is e.
-      let a : answer_of p.answer ≡ answered (limits long) (store_of x) t (call_of call) = subst (λ l. answer_of p.answer ≡ answered (limits l) (store_of x) t (call_of call)) same d.answers in
-      looks long short rate fits (store_of x) t (waited long short rate (store_of x) (store_of x) n t h refl reached) o c i v ks (ap (answered (limits long) (store_of x) t) (sym is) ∙ sym a ∙ e)
+      looks x.times.long x.times.short x.times.rate x.times.fits (store_of x) t (waited x.times.long x.times.short x.times.rate (store_of x) (store_of x) n t h refl reached) o c i v ks
+      (ap (answered (limits x.times.long) (store_of x) t) (sym is) ∙ sym d.answers ∙ e)
   finds (Err e) d = tt
-
--- an empty register comes up
-pub came_up_lem : {X Y : Type 0} (r : Result X Y) (R S : Register) → R ≡ bare → Applied r came_up R S → S ≡ applied came_up bare
-came_up_lem (Ok u) R S e (can, did) = did ∙ ap (applied came_up) e
-came_up_lem (Err u) R S e (cannot, same) = absurd (true≢false (sym (ap (can_do came_up) e) ∙ cannot))

@@ -3,7 +3,6 @@ use Rattle.std.proofs.Common.{ℕ, refl, arith}
 use mathlib.Core.List.Memᴰ
 use Rattle.keyset.specs.Sets.{any_below, keys_below}
 use Rattle.register.specs.Registers.{replayed, all_stages, stages_now}
-use Rattle.lease.specs.Leases.{same_list, holds, all_at, left_beside}
 use Rattle.lease.specs.Clocks.{Counts}
 use Rattle.service.specs.Calls.{}
 use Rattle.service.specs.World.{Possible, none_yet, one_more, after_all}
@@ -14,7 +13,7 @@ good_since : (u : ℕ) → Counts times u (since u)
 good_since u = record { rises = λ a b f l. omega arith; not_fast = λ a b f l. omega arith; not_slow = λ a b f l. omega arith }
 
 public_possible : Possible small times to_public
-unfolding after_all stages_now all_at holds left_beside same_list any_below all_stages replayed
+unfolding after_all stages_now any_below all_stages replayed
 public_possible =
     one_more _ _ (one_more _ _ (one_more _ _ (one_more _ _ (one_more _ _
     (one_more _ _ (one_more _ _ (one_more _ _ (one_more _ _ (one_more _ _ (one_more _ _ (one_more _ _
@@ -23,7 +22,7 @@ public_possible =
     tt) (refl, omega arith)) (refl, omega arith)) tt) refl
 
 pub can_run : CanRun
-unfolding after_all stages_now all_at holds left_beside same_list any_below keys_below all_stages replayed
+unfolding after_all stages_now any_below keys_below all_stages replayed
 can_run = record {
   fits = record { some_grain = omega arith; within = omega arith };
   counts = λ o. record { rises = λ a b f l. l; not_fast = λ a b f l. omega arith; not_slow = λ a b f l. omega arith };

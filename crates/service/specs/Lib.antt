@@ -3,5 +3,6 @@ pub mod World
 pub mod Promise
 pub mod Examples
 pub mod Held
+pub mod Decided
 pub mod Reached
-pub mod Log
+pub use Rattle.wal.specs.Log

@@ -1,18 +1,19 @@
 //! Answers that wait together: one append and one sync serve them all.
 
-ghost use Rattle.std.specs.Prelude.{◌≡◌, ℕ, List, [], ◌∷◌, ◌++◌, OnOk};
+ghost use Rattle.std.specs.Prelude.{◌≡◌, [], ◌∷◌, ◌++◌, OnOk};
 ghost use Rattle.std.specs.Option.{option_to_list};
-ghost use Rattle.service.specs.Log.{Committed};
+ghost use Rattle.wal.specs.Log.{Committed};
 
-use super::journal::{Fault, Journal};
 use super::kinds::Answer;
 use super::pending::Pending;
 use register::Record;
 use std::alloc::{AllocError, Global};
+use wal::{Fault, Journal};
 
 /// Answers that wait for their records to be in the journal, the oldest first. It is not `Drop`: only a commit spends
 /// it.
 pub struct Batch {
+    // Two lists, since many answers have no record, and one append takes all records as a slice.
     answers: Vec<Answer>,
     records: Vec<Record>,
 }
@@ -41,22 +42,12 @@ impl Batch {
     }
 
     /// Writes all records and syncs them; only then the answers can be given out.
-    pub fn commit<J: Journal>(self, journal: &mut J) -> Result<Vec<Answer>, Fault>
+    pub fn commit<J: Journal<Record>>(self, journal: &mut J) -> Result<Vec<Answer>, Fault>
         ensures { Committed result (λ v. v.items ≡ self.answers.items) self.records.items (J.Journal.durable journal.old) (J.Journal.pending journal.old) (J.Journal.durable journal.new) (J.Journal.pending journal.new) }
     {
         let Batch { answers, records } = self;
-        match write_all(journal, records.as_slice()) {
-            Ok(()) => Ok(answers),
-            Err(fault) => Err(fault),
-        }
+        journal.append(records.as_slice())?;
+        journal.sync()?;
+        Ok(answers)
     }
-}
-
-/// Writes records and syncs them.
-fn write_all<J: Journal>(journal: &mut J, records: &[Record]) -> Result<(), Fault>
-    ensures { Committed result (λ _. Unit {0}) records.now (J.Journal.durable journal.old) (J.Journal.pending journal.old) (J.Journal.durable journal.new) (J.Journal.pending journal.new) }
-{
-    journal.append(records)?;
-    journal.sync()?;
-    Ok(())
 }

@@ -1,18 +1,15 @@
 //! Calls and answers.
 
-ghost use Rattle.std.specs.Prelude.{◌≡◌, length};
-
 use change::Refusal;
 use keyset::Key;
 use stage::{INDEXES, Slot, Stage};
 use table::Column;
 
 /// What a call is made on: the epoch, and the stages that the office knows.
-#[derive(Clone, Copy)]
+#[derive(Clone, Copy, Debug, PartialEq, Eq)]
 pub struct Claim {
     pub epoch: u64,
     pub stages: [Stage; INDEXES],
-    ghost stages_long: { length stages ≡ 8 },
 }
 
 /// A call. Those of an office begin with the office's number.

@@ -6,7 +6,6 @@ mod batch;
 mod call;
 mod decide;
 mod grant;
-mod journal;
 mod kinds;
 mod owner;
 mod pending;
@@ -15,8 +14,8 @@ mod store;
 mod theorems;
 
 pub use batch::Batch;
-pub use journal::{Fault, Journal, Memory};
 pub use kinds::{Answer, Call, Claim};
 pub use pending::Pending;
 pub use store::Store;
 pub use theorems::{example_can_run, keeps, stays};
+pub use wal::{Fault, Journal, Memory};

@@ -1,12 +1,12 @@
 //! What calls are done to.
 
-use lease::Book;
+use lease::{Book, Times};
 use register::Register;
 
-/// The register, the book of leases, and how long a lease runs.
+/// The register, the book of leases, and the times of leases.
 #[derive(Drop)]
 pub struct State {
     pub(super) register: Register,
     pub(super) book: Book,
-    pub(super) long: u64,
+    pub(super) times: Times,
 }

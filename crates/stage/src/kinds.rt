@@ -1,9 +1,11 @@
 //! Stages of an index, and what is written to a row.
 
+use std::error::Error;
+use std::fmt;
 use table::Row;
 
 /// The stage of an index, as an office knows it or as its change has come to it.
-#[derive(Clone, Copy)]
+#[derive(Clone, Copy, Debug, PartialEq, Eq, PartialOrd, Ord)]
 pub enum Stage {
     /// Not there.
     Absent,
@@ -14,6 +16,18 @@ pub enum Stage {
     /// Rows are looked up by it.
     Public,
 }
+
+/// A number that is no stage's.
+#[derive(Clone, Copy, Debug, PartialEq, Eq)]
+pub struct NoStage(pub u8);
+
+impl fmt::Display for NoStage {
+    fn fmt<W: fmt::Write>(&self, f: &mut fmt::Formatter<W>) -> fmt::Result {
+        write!(f, "there is no stage {}", self.0)
+    }
+}
+
+impl Error for NoStage {}
 
 /// How many indexes there can be.
 pub const INDEXES: usize = 8;

@@ -2,9 +2,9 @@
 
 #![tactic(auto)]
 
-ghost use Rattle.std.specs.Prelude.{◌≡◌, ℕ, ◌<◌, ◌≤◌, Bool, true, false, cond, not, ◌&&◌, Some, None, MatchOption, ◌==◌, nat_le};
+ghost use Rattle.std.specs.Prelude.{◌≡◌, ℕ, ◌<◌, ◌≤◌, Bool, true, false, cond, not, ◌&&◌, Some, None, MatchResult, ◌==◌, nat_le};
 ghost use Rattle.table.specs.Held.{entry_of};
-ghost use Rattle.table.specs.Layout.{value_in};
+ghost use Rattle.table.specs.Columns.{value_in};
 ghost use Rattle.table.specs.Update.{update};
 ghost use Rattle.stage.specs.Stages.{rank, written, taken_out, entry_after, refused_by};
 
@@ -14,53 +14,46 @@ use table::{Column, Entries, Row};
 mod kinds;
 mod slot;
 
-pub use kinds::{INDEXES, Stage, Write};
-pub use slot::Slot;
+pub use kinds::{INDEXES, NoStage, Stage, Write};
+pub use slot::{OfIndex, Slot};
+
+impl TryFrom<u8> for Stage {
+    type Error = NoStage;
+
+    ghost try_from_gives = { λ n r. MatchResult r (λ s. rank s ≡ n) (λ _. 4 ≤ n) };
+
+    fn try_from(number: u8) -> Result<Self, NoStage> {
+        match number {
+            0 => Ok(Stage::Absent),
+            1 => Ok(Stage::DeleteOnly),
+            2 => Ok(Stage::WriteOnly),
+            3 => Ok(Stage::Public),
+            _ => Err(NoStage(number)),
+        }
+    }
+}
+
+impl From<Stage> for u8 {
+    ghost from_gives = { λ s n. n ≡ rank s };
+
+    fn from(stage: Stage) -> u8 {
+        stage as u8
+    }
+}
 
 impl Stage {
-    /// The stage of that number, from 0 to 3.
-    pub fn new(number: u8) -> Option<Stage>
-        ensures { MatchOption result (4 ≤ number) (λ s. rank s ≡ number) }
-    {
-        match number {
-            0 => Some(Stage::Absent),
-            1 => Some(Stage::DeleteOnly),
-            2 => Some(Stage::WriteOnly),
-            3 => Some(Stage::Public),
-            _ => None,
-        }
-    }
-
-    /// The stage's number.
-    pub fn number(self) -> u8
-        ensures { result ≡ rank self }
-    {
-        match self {
-            Stage::Absent => 0,
-            Stage::DeleteOnly => 1,
-            Stage::WriteOnly => 2,
-            Stage::Public => 3,
-        }
-    }
-
     /// Whether rows are looked up by an index in this stage.
     pub fn looks_up(self) -> bool
         ensures { result ≡ (rank self == 3) }
     {
-        match self {
-            Stage::Public => true,
-            Stage::Absent | Stage::DeleteOnly | Stage::WriteOnly => false,
-        }
+        self == Stage::Public
     }
 
     /// Whether whoever is in this stage puts entries in.
     fn puts_in(self) -> bool
         ensures { result ≡ nat_le 2 (rank self) }
     {
-        match self {
-            Stage::WriteOnly | Stage::Public => true,
-            Stage::Absent | Stage::DeleteOnly => false,
-        }
+        self >= Stage::WriteOnly
     }
 }
 
@@ -68,15 +61,12 @@ impl Stage {
 fn take_out(entries: &mut Entries, column: Column, key: Key, old: Option<Row>)
     ensures { (j : ℕ) → entry_of entries.new j ≡ update key.number (taken_out (value_in column.number old) (entry_of entries.old key.number)) (entry_of entries.old) j }
 {
-    if let Some(row) = old {
-        if let Some(value) = entries.get(key) {
-            if value == row.value(column) {
-                entries.take(key);
-            }
-        }
+    if old.is_some_and(|row| entries.get(key) == Some(row.value(column))) {
+        entries.take(key);
     }
 }
 
+// Entries, column and key stay parameters: the entries are lent, and the others are of one write to one index.
 /// What an office that knows an index in a stage does to the index as it writes a key's row.
 pub fn follow(
     entries: &mut Entries,

@@ -100,12 +100,8 @@ fn not_unique(rt: HostRuntime) -> Result<(), Fail> {
 
 #[test]
 fn numbers(rt: HostRuntime) -> Result<(), Fail> {
-    assert!(rt; Stage::new(4).is_none() && Stage::new(255).is_none());
-    match Stage::new(3) {
-        Some(stage) => {
-            assert!(rt; stage.number() == 3 && stage.looks_up());
-            Ok(())
-        },
-        None => Err(Fail::new("no stage 3")),
-    }
+    assert!(rt; Stage::try_from(4).is_err() && Stage::try_from(255).is_err());
+    let stage = Stage::try_from(3)?;
+    assert!(rt; u8::from(stage) == 3 && stage.looks_up());
+    Ok(())
 }

@@ -27,42 +27,36 @@ end of the input.
 enum Command {
     Help,
     Serve(String),
-    Unknown(String),
 }
 
 fn command_line(rt: &HostRuntime) -> anyhow::Result<Command> {
     let mut path = String::from_str(rt.alloc(), "register")?;
-    let mut wants_path = false;
-    for word in env::args(rt)?.skip(1) {
-        if wants_path {
-            path = word;
-            wants_path = false;
-        } else if word.as_str() == "--file" {
-            wants_path = true;
-        } else if word.as_str() == "--help" {
-            return Ok(Command::Help);
-        } else {
-            return Ok(Command::Unknown(word));
+    let mut words = env::args(rt)?.skip(1);
+    while let Some(word) = words.next() {
+        match word.as_str() {
+            "--file" => {
+                let missing = || unknown("--file with no path behind it");
+                path = words.next().ok_or_else(missing)?;
+            }
+            "--help" => return Ok(Command::Help),
+            option => return Err(unknown(option)),
         }
     }
-    if wants_path {
-        return Ok(Command::Unknown(String::from_str(rt.alloc(), "--file with no path behind it")?));
-    }
     Ok(Command::Serve(path))
+}
+
+/// The error of an option that is not there.
+fn unknown(option: &str) -> anyhow::Error {
+    anyhow!("unknown option {option}; store --help lists those there are")
 }
 
 /// Answers each line of the input, in order.
 fn serve(rt: &HostRuntime, rows: &Rows) -> anyhow::Result<()> {
     let heap = rt.alloc();
-    let mut input = BufReader::new(heap, rt.stdin())?;
     let mut out = rt.stdout();
-    let mut line: Vec<u8> = Vec::new(heap);
-    for _ in 0..u64::MAX {
-        line.clear();
-        if input.read_until(b'\n', &mut line)? == 0 {
-            break;
-        }
-        if let Some(text) = answer::to_line(heap, rows, line.as_slice())? {
+    for line in BufReader::new(heap, rt.stdin())?.split(heap, b'\n') {
+        if let Some(answer) = answer::to_line(rows, line?.as_slice()) {
+            let text = format!(in heap; "{answer}\n")?;
             out.write_all(text.as_bytes())?;
         }
     }
@@ -75,15 +69,7 @@ fn run(rt: &HostRuntime) -> anyhow::Result<()> {
     let _out = File::open(rt, "/dev/null")?;
     let _err = File::open(rt, "/dev/null")?;
     match command_line(rt)? {
-        Command::Help => {
-            rt.print(HELP)?;
-            Ok(())
-        }
-        Command::Unknown(word) => {
-            Err(anyhow!(format!(in rt.alloc();
-                "unknown option {word}; store --help lists those there are"
-            )?))
-        }
+        Command::Help => Ok(rt.print(HELP)?),
         Command::Serve(path) => {
             let lives = register::come_up(rt, path.as_str())?;
             println!(rt; "up {lives}")?;

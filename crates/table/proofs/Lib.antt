@@ -1,3 +1,1 @@
-pub mod Laid
-pub mod Lent
 pub mod Past

@@ -1,19 +1,15 @@
 -- No row and no entry is there past the last key.
-use Rattle.std.proofs.Common.{◌≡◌, ℕ, ◌≤◌, false, List, length, None, vec_items, arith}
-use Rattle.keyset.specs.Sets.{has}
-use Rattle.keyset.proofs.Words.{has_past}
-use Rattle.table.specs.declared.owners.Rows.{Rows}
-use Rattle.table.specs.declared.owners.Entries.{Entries}
-use Rattle.table.specs.Layout.{row_at, entry_at}
-use Rattle.table.specs.Held.{row_of, entry_of}
+use Rattle.std.proofs.Common.{◌≡◌, ℕ, ◌≤◌, None, vec_items, arith}
+use lib.ListN.{get_or-eq_default}
+use Rattle.table.specs.declared.row.Row.{Row}
+use Rattle.table.specs.declared.table.Table.{Table}
+use Rattle.table.specs.Held.{cell_of, row_of, entry_of}
 
-not_in : (ks : List ℕ) (k : ℕ) → length ks ≡ 128 → 4096 ≤ k → has ks k ≡ false
-not_in ks k l h = has_past ks k (omega arith)
+pub no_cell_past : {A : Type 0} (t : Table A) (k : ℕ) → 4096 ≤ k → cell_of t k ≡ None
+no_cell_past t k h = get_or-eq_default (vec_items t.cells) None (omega (arith, t.one_for_each_key))
 
-pub no_row_past : (t : Rows) (k : ℕ) → 4096 ≤ k → row_of t k ≡ None
-unfolding row_at
-no_row_past t k h = let z = not_in (vec_items t.keys) k t.keys_long h in rw z
+pub no_row_past : (t : Table Row) (k : ℕ) → 4096 ≤ k → row_of t k ≡ None
+no_row_past = no_cell_past
 
-pub no_entry_past : (t : Entries) (k : ℕ) → 4096 ≤ k → entry_of t k ≡ None
-unfolding entry_at
-no_entry_past t k h = let z = not_in (vec_items t.keys) k t.keys_long h in rw z
+pub no_entry_past : (t : Table ℕ) (k : ℕ) → 4096 ≤ k → entry_of t k ≡ None
+no_entry_past = no_cell_past

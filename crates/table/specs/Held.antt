@@ -1,14 +1,16 @@
--- What the owners of rows and entries hold, key by key.
-use Rattle.std.specs.Prelude.{ℕ, vec_items, Option}
+-- What each key has.
+use Rattle.std.specs.Prelude.{ℕ, vec_items, Option, None, slice_index_or}
 use Rattle.table.specs.declared.row.Row.{Row}
-use Rattle.table.specs.declared.owners.Rows.{Rows}
-use Rattle.table.specs.declared.owners.Entries.{Entries}
-use Rattle.table.specs.Layout.{row_at, entry_at}
+use Rattle.table.specs.declared.table.Table.{Table}
+
+-- what a key has, if it has something
+abbrev pub cell_of : {A : Type 0} → Table A → ℕ → Option A
+cell_of t k = slice_index_or (vec_items t.cells) k None
 
 -- the row of a key, if it has one
-abbrev pub row_of : Rows → ℕ → Option Row
-row_of t k = row_at (vec_items t.words) (vec_items t.keys) k
+abbrev pub row_of : Table Row → ℕ → Option Row
+row_of = cell_of
 
 -- the entry of a key, if it has one: its value
-abbrev pub entry_of : Entries → ℕ → Option ℕ
-entry_of t k = entry_at (vec_items t.words) (vec_items t.keys) k
+abbrev pub entry_of : Table ℕ → ℕ → Option ℕ
+entry_of = cell_of

@@ -1,3 +1,3 @@
 pub mod Update
-pub mod Layout
+pub mod Columns
 pub mod Held

@@ -1,16 +1,16 @@
-//! Rows and index entries, in lent words. How they lie in the words is this crate's own matter: what is above it
-//! has [`Rows`] and [`Entries`], which own their words and lend them.
+//! Rows and index entries: at most one thing for each key. What is above this crate has [`Rows`] and [`Entries`].
 
 #![tactic(auto)]
 
 mod entries;
-mod owners;
 mod row;
 mod rows;
-mod words;
+mod table;
 
-pub use owners::{Entries, Rows};
-pub use row::{COLUMNS, Column, Row};
+pub use entries::Entries;
+pub use row::{COLUMNS, Column, OfColumn, Row};
+pub use rows::Rows;
+pub use table::Table;
 
 #[cfg(test)]
 mod tests;

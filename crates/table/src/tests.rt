@@ -10,7 +10,7 @@ fn put_row(rows: &mut Rows, number: u16, value: u32) {
     if let Some(key) = Key::new(number) {
         rows.put(
             key,
-            &Row {
+            Row {
                 columns: [value, 1, 2, 3, 4, 5, 6, value],
             },
         );
@@ -23,7 +23,7 @@ fn take_row(rows: &mut Rows, number: u16) {
     }
 }
 
-// The sum of a row's first and last column, which have the same value; None where there is no row.
+// Whether a key's row has that value in its first and last column.
 fn row_is(rows: &Rows, number: u16, value: u32) -> bool {
     let Some(key) = Key::new(number) else {
         return false;

@@ -1,2 +1,3 @@
 mod Pieces
+mod Tried
 mod Read

@@ -1,50 +1,56 @@
 -- How a text falls apart into its first word and what follows it.
-use Rattle.std.proofs.Common.{◌≡◌, ℕ, zero, suc, ◌-◌, ◌<◌, ◌≤◌, cond, eqb, List, [], ◌∷◌, length, get_or, take, drop, sym, refl, ap, ◌∙◌, add-zero, arith, length-drop, get_or-drop}
-use Rattle.words.specs.Words.{words, on_first}
+use Rattle.std.proofs.Common.{◌≡◌, ℕ, ◌<◌, Bool, true, false, not, eqb, List, [], ◌∷◌, length, take, drop, Some, None, Option, refl, ap, arith}
+use Rattle.std.proofs.Math.Numerals.{one-add}
+use Rattle.std.proofs.lemmas.List.Sums.{prefix_len-le-length}
+use Rattle.std.specs.List.{position, position_or_len}
+use Rattle.std.specs.Option.{unwrap_or}
+use Rattle.words.specs.Words.{words, begun, on_first}
 
--- spaces in front are in no word
-pub words_behind_spaces : (n : ℕ) (bs : List ℕ) → n ≤ length bs → ((k : ℕ) → k < n → get_or bs k 0 ≡ 32) → words bs ≡ words (drop n bs)
-words_behind_spaces zero bs le h = refl
-words_behind_spaces (suc n) [] le h = refl
-words_behind_spaces (suc n) (b ∷ bs) le h =
-    let here : b ≡ 32 = h 0 (omega arith) in
-    let more : words bs ≡ words (drop n bs) = words_behind_spaces n bs (omega arith) (λ k lt. h (suc k) (omega arith)) in
-    grind arith
+abbrev pub is_space : ℕ → Bool
+is_space b = eqb b 32
 
--- two bytes in front that are no spaces
-within : (b c : ℕ) (x y z : List (List ℕ)) → (b ≡ 32 → ⊥) → (c ≡ 32 → ⊥) → cond (eqb b 32) x (cond (eqb c 32) y z) ≡ z
-within b c x y z p q = grind arith
+-- how many spaces a text begins with, and how many other bytes
+abbrev spaces : List ℕ → ℕ
+spaces bs = position_or_len (λ b. not (is_space b)) bs
 
--- a word ends at the text's end or at a space
-pub words_of_word : (n : ℕ) (bs : List ℕ) → 0 < n → n ≤ length bs → ((k : ℕ) → k < n → get_or bs k 0 ≡ 32 → ⊥) → (n < length bs → get_or bs n 0 ≡ 32) → words bs ≡ take n bs ∷ words (drop n bs)
-words_of_word zero bs some le h end = absurd (omega arith)
-words_of_word (suc n) [] some le h end = absurd (omega arith)
-words_of_word (suc zero) (b ∷ []) some le h end = let here : b ≡ 32 → ⊥ = h 0 (omega arith) in grind arith
-words_of_word (suc zero) (b ∷ c ∷ cs) some le h end =
-    let here : b ≡ 32 → ⊥ = h 0 (omega arith) in
-    let next : c ≡ 32 = end (omega arith) in
-    grind arith
-words_of_word (suc (suc n)) (b ∷ []) some le h end = absurd (omega arith)
-words_of_word (suc (suc n)) (b ∷ c ∷ cs) some le h end =
-    let here : b ≡ 32 → ⊥ = h 0 (omega arith) in
-    let next : c ≡ 32 → ⊥ = h 1 (omega arith) in
-    let more : words (c ∷ cs) ≡ take (suc n) (c ∷ cs) ∷ words (drop (suc n) (c ∷ cs)) = words_of_word (suc n) (c ∷ cs) (omega arith) (omega arith) (λ k lt. h (suc k) (omega arith)) (λ lt. end (omega arith)) in
-    within b c _ _ _ here next ∙ ap (on_first b) more
+abbrev others : List ℕ → ℕ
+others bs = position_or_len is_space bs
 
--- behind the spaces nothing is left: no word
-pub split_none : (s n : ℕ) (bs rest : List ℕ) → rest ≡ drop s bs → s ≤ length bs → ((k : ℕ) → k < s → get_or bs k 0 ≡ 32) → (s < length bs → get_or bs s 0 ≡ 32 → ⊥) → n ≡ 0 → (n < length rest → get_or rest n 0 ≡ 32) → words bs ≡ []
-split_none s n bs [] e le before found z end = words_behind_spaces s bs le before ∙ ap words (sym e)
-split_none s n bs (r ∷ rs) e le before found z end =
-    let long : length (r ∷ rs) ≡ length bs - s = ap length e ∙ length-drop s bs in
-    let space : r ≡ 32 = ap (λ k. get_or (r ∷ rs) k 0) (sym z) ∙ end (omega arith) in
-    let same : r ≡ get_or bs s 0 = ap (λ l. get_or l 0 0) e ∙ get_or-drop s bs 0 0 ∙ ap (λ k. get_or bs k 0) (add-zero s) in
-    absurd (found (omega arith) (sym same ∙ space))
+-- a text of spaces has no word
+blank : (bs : List ℕ) → length bs ≡ spaces bs → words bs ≡ []
+blank [] e = refl
+blank (b ∷ bs) e = let rest : length bs ≡ spaces bs → words bs ≡ [] = blank bs in grind arith
 
--- behind the spaces a word stands
-pub split_some : (s n : ℕ) (bs rest : List ℕ) → rest ≡ drop s bs → s ≤ length bs → ((k : ℕ) → k < s → get_or bs k 0 ≡ 32) → 0 < n → n ≤ length rest → ((k : ℕ) → k < n → get_or rest k 0 ≡ 32 → ⊥) → (n < length rest → get_or rest n 0 ≡ 32) → words bs ≡ take n rest ∷ words (drop n rest)
-split_some s n bs rest e le before some within inside end =
-    words_behind_spaces s bs le before ∙ ap words (sym e) ∙ words_of_word n rest some within inside end
+-- a word that was begun goes on up to a space or the text's end
+abbrev GoesOn : ℕ → List ℕ → Type 0
+GoesOn b bs = begun b bs (words bs) ≡ (b ∷ take (others bs) bs) ∷ words (drop (others bs) bs)
 
--- the same of what a call gave
-pub given : (ws : List (List ℕ)) (w v bs cs : List ℕ) → ws ≡ w ∷ words bs → v ≡ w → cs ≡ bs → ws ≡ v ∷ words cs
-given ws w v bs cs e p q = cc
+goes_on : (b : ℕ) (bs : List ℕ) → GoesOn b bs
+goes_on b [] = refl
+goes_on b (c ∷ cs) =
+    let more = ap (on_first b) (goes_on c cs) in
+    (elim (eqb c 32) as (λ v. eqb c 32 ≡ v → GoesOn b (c ∷ cs)) [ true ↦ λ e. simp e | false ↦ λ e. simp e (simp one-add more) ]) refl
+
+-- the first word, and the words behind it
+abbrev FallsApart : List ℕ → Type 0
+FallsApart bs = let rest = drop (spaces bs) bs in words bs ≡ take (others rest) rest ∷ words (drop (others rest) rest)
+
+falls_apart : (bs : List ℕ) → spaces bs < length bs → FallsApart bs
+falls_apart [] lt = absurd (omega arith)
+falls_apart (b ∷ bs) lt =
+    let here = goes_on b bs in
+    let later = falls_apart bs in
+    (elim (eqb b 32) as (λ v. eqb b 32 ≡ v → FallsApart (b ∷ bs)) [ true ↦ λ e. let less = simp e at lt in simp e (simp one-add (later (omega arith))) | false ↦ λ e. simp e (simp one-add here) ]) refl
+
+-- the same, of what `position` answers
+pub no_word : (bs : List ℕ) (start : Option ℕ) → start ≡ position (λ b. not (is_space b)) bs → start ≡ None → words bs ≡ []
+no_word bs start e none = let le = prefix_len-le-length (λ b. not (not (is_space b))) bs in blank bs (grind arith)
+
+pub first_word : (bs rest : List ℕ) (start end : Option ℕ) (s n : ℕ) → start ≡ position (λ b. not (is_space b)) bs → start ≡ Some s → rest ≡ drop s bs → end ≡ position is_space rest → n ≡ unwrap_or end (length rest) → words bs ≡ take n rest ∷ words (drop n rest)
+first_word bs rest start end s n e some f g h =
+    let le = prefix_len-le-length (λ b. not (is_space b)) rest in
+    let from : s ≡ spaces bs = grind arith in
+    let to : n ≡ others rest = grind arith in
+    let lt : spaces bs < length bs = grind arith in
+    let apart = falls_apart bs lt in
+    cc

@@ -1,17 +1,13 @@
-use Rattle.std.proofs.Common.{sym, ◌∙◌}
+use Rattle.std.proofs.Common.{refl, rules, tests}
+use Rattle.std.proofs.lemmas.Iterator.{YieldsList-from_range, items_from_collect}
+use Rattle.std.proofs.lemmas.Iterator.Consumers.{YieldsList-from_filter}
 use Rattle.keyset.specs.Sets.{has}
-use Rattle.keyset.proofs.Scans.{keys_none, keys_in, keys_out}
+use Rattle.keyset.proofs.Scans.{keys_in_range}
 use Rattle.keyset.proofs.listed.Goals as goal
-use Rattle.keyset.proofs.listed.Goals.{then-holds+in_ok-push, else-holds}
 
-pub loop-k-init : goal.loop-k-init
-loop-k-init c = c.new-keys.ensures.items ∙ sym (keys_none (has c.args.words.now))
-
-pub loop-k-preserved : goal.loop-k-preserved
-loop-k-preserved c =
-    elim c.if-holds.branch [
-      | then-holds+in_ok-push w ↦
-          let e = keys_in (has c.args.words.now) c.loop-k.k w.if-holds.ensures in
-          let p = w.in_ok-push.ensures.items in cc
-      | else-holds w ↦ let e = keys_out (has c.args.words.now) c.loop-k.k w.if-holds.ensures in cc
-    ]
+pub returns : goal.returns
+returns c =
+    let f = has c.args.words.now in
+    rw (← keys_in_range f 4096)
+    (items_from_collect c.collect.result c.collect.ensures.ran
+    (YieldsList-from_filter _ f (YieldsList-from_range 0 4096 4096 (search rules) refl) refl (λ x b q. search (rules, tests))))

@@ -1,10 +1,7 @@
-use Rattle.std.proofs.Common.{◌++◌, get_or, take, vec_items, sym, ap, ◌∙◌, append_assoc, arith, take_all}
+use Rattle.std.proofs.Common.{◌++◌, get_or, take, vec_items, sym, ap, ◌∙◌, append_assoc, arith}
 use Rattle.journal.specs.Bytes.{four, fours}
-use Rattle.journal.proofs.Adds.{added_short, fours_more}
+use Rattle.journal.proofs.Adds.{fours_more}
 use Rattle.journal.proofs.write.add_columns.Goals as goal
-
-pub returns-in_err-add : goal.returns-in_err-add
-returns-in_err-add c = added_short c.from_residual.result _ _ _ _ _ c.from_residual.ensures.0 c.loop-column.invariant c.in_err-add.ensures
 
 pub loop-column-preserved : goal.loop-column-preserved
 loop-column-preserved c =
@@ -13,6 +10,3 @@ loop-column-preserved c =
     let old = vec_items c.args.out.now in
     c.in_ok-add.ensures ∙ (λ j. c.loop-column.invariant j ++ c.to_be_bytes.ensures j) ∙ append_assoc old (fours (take i cs)) (four (get_or cs i 0))
     ∙ ap (λ l. old ++ l) (sym (fours_more cs i (omega arith)))
-
-pub returns : goal.returns
-returns c = c.loop-column.invariant ∙ ap (λ l. vec_items c.args.out.now ++ fours l) (take_all c.loop-column.column-index c.args.columns.now (omega arith))

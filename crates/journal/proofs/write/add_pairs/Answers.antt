@@ -1,4 +1,4 @@
-use Rattle.std.proofs.Common.{[], ◌∷◌, ◌++◌, get_or, take, vec_items, sym, ap, ◌∙◌, append_assoc, arith, take_all}
+use Rattle.std.proofs.Common.{[], ◌∷◌, ◌++◌, get_or, take, vec_items, sym, ap, ◌∙◌, append_assoc, arith}
 use Rattle.stage.specs.declared.kinds.Stage.TheVariants.{Absent}
 use Rattle.stage.specs.Stages.{rank, ranks}
 use Rattle.journal.specs.Bytes.{pairs}
@@ -16,6 +16,3 @@ loop-index-preserved c =
     let one = pairs i (rank (get_or ss i Absent) ∷ []) in
     c.in_ok-add_stage.ensures ∙ ap (λ l. l ++ one) c.loop-index.invariant ∙ append_assoc old (pairs 0 (ranks (take i ss))) one
     ∙ ap (λ l. old ++ l) (sym (pairs_more ss i Absent (omega arith)))
-
-pub returns : goal.returns
-returns c = c.loop-index.invariant ∙ ap (λ l. vec_items c.args.out.now ++ pairs 0 (ranks l)) (take_all c.loop-index.index c.args.stages.now (omega arith))

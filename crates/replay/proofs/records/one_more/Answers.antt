@@ -1,10 +1,13 @@
-use Rattle.register.specs.Held.{record_of}
+use Rattle.std.proofs.Common.{◌≡◌, true, rules}
+use Rattle.register.specs.Registers.{applied}
+use Rattle.register.specs.Held.{register_of, record_of, can_do}
 use Rattle.replay.proofs.Windows.{further}
 use Rattle.replay.proofs.records.one_more.Goals as goal
 
 pub returns : goal.returns
 returns c =
-    let (writable, stands, within) = c.in-Whole.ensures in
-    let (can, did) = c.in-Ok.ensures in
-    let x = record_of c.in-Whole.what in
-    (x, writable, stands, further c.args.bytes.now c.args.at c.in-Whole.end x stands within, within, can, did)
+    let x = record_of c.in-Ok.read.0 in
+    let end = c.in-Ok.read.1 in
+    let (writable, stands, within) = c.in-Ok.ensures in
+    let done : (can_do x (register_of c.args.register.now) ≡ true) × (register_of c.apply.new.self ≡ applied x (register_of c.args.register.now)) = search rules in
+    (x, writable, stands, further c.args.bytes.now c.args.at end x stands within, within, done.0, done.1)

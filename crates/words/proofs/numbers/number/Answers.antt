@@ -1,25 +1,11 @@
-use Rattle.words.proofs.Read.{one_more, no_more, no_further}
+use Rattle.std.proofs.Common.{rules}
+use Rattle.std.proofs.lemmas.Iterator.{YieldsList-from_slice}
+use Rattle.words.proofs.Tried.{tried_over}
+use Rattle.words.proofs.Read.{with_digit, number_read}
 use Rattle.words.proofs.numbers.number.Goals as goal
-
-pub loop-byte-preserved : goal.loop-byte-preserved
-loop-byte-preserved c =
-    one_more c.args.most c.loop-byte.n c.in-Some.more c.loop-byte.byte-index c.args.word.now
-    c.loop-byte-test.true c.loop-byte.invariant.1 c.in-Some.ensures
-
-pub returns-in_default : goal.returns-in_default
-returns-in_default c =
-    record {
-      value =
-          no_more c.args.most c.loop-byte.n c.loop-byte.byte-index c.args.word.now c.loop-byte-test.true
-          c.loop-byte.invariant.1 c.in_default.ensures;
-      bound = tt;
-    }
 
 pub returns : goal.returns
 returns c =
-    record {
-      value =
-          no_further c.args.most c.loop-byte.n c.loop-byte.byte-index c.args.word.now c.if-is_empty.ensures
-          c.loop-byte-test.false c.loop-byte.invariant.1;
-      bound = c.loop-byte.invariant.0;
-    }
+    let tried = tried_over (λ x. x.now) _ _ (with_digit c.args.most) (λ n x r q k. search rules) (YieldsList-from_slice c.args.word.now cc) _ 0 c.try_fold.result _ c.try_fold.ensures.ran in
+    let read = number_read c.args.most c.args.word.now _ c.if-is_empty.ensures tried in
+    record { value = read.0; bound = read.1 }

@@ -1,20 +1,19 @@
-use Rattle.std.proofs.Common.{length, arith}
+use Rattle.std.proofs.Common.{length, not, rules, tests, arith}
+use Rattle.std.proofs.lemmas.Iterator.{YieldsList-from_slice}
+use Rattle.std.proofs.lemmas.Iterator.Search.{position_from_yields_List}
 use Rattle.std.proofs.lemmas.Slice.{between_to_end}
-use Rattle.words.proofs.Pieces.{split_none, split_some, given}
+use Rattle.words.proofs.Pieces.{is_space, no_word, first_word}
 use Rattle.words.proofs.split.split_word.Goals as goal
 
-pub returns-then-end-eq0 : goal.returns-then-end-eq0
-returns-then-end-eq0 c =
-    split_none c.first_of_word-start.result c.first_space-end.result c.args.text.now _
-    (between_to_end c.args.text.now c.first_of_word-start.result (length c.args.text.now) (omega arith))
-    c.first_of_word-start.ensures.within c.first_of_word-start.ensures.before c.first_of_word-start.ensures.found
-    c.if-end-eq0.true c.first_space-end.ensures.found
+pub returns-in_err-start : goal.returns-in_err-start
+returns-in_err-start c =
+    let start = position_from_yields_List (λ b. not (is_space b)) _ _ c.position.result c.position.ensures.ran (YieldsList-from_slice c.args.text.now cc) (λ x b q k. search (rules, tests)) in
+    rw c.from_residual.ensures (no_word c.args.text.now _ start c.in_err-start.was)
 
 pub returns : goal.returns
 returns c =
-    given _ _ _ _ _
-    (split_some c.first_of_word-start.result c.first_space-end.result c.args.text.now _
-    (between_to_end c.args.text.now c.first_of_word-start.result (length c.args.text.now) (omega arith))
-    c.first_of_word-start.ensures.within c.first_of_word-start.ensures.before (omega arith)
-    c.first_space-end.ensures.within c.first_space-end.ensures.before c.first_space-end.ensures.found)
-    c.split_at.ensures.front c.split_at.ensures.back
+    let text = c.args.text.now in
+    let start = position_from_yields_List (λ b. not (is_space b)) _ _ c.position.result c.position.ensures.ran (YieldsList-from_slice text cc) (λ x b q k. search (rules, tests)) in
+    let end = position_from_yields_List is_space _ _ c.position-2.result c.position-2.ensures.ran (YieldsList-from_slice _ c.iter-2.ensures.rest) (λ x b q k. search (rules, tests)) in
+    rw (c.split_at.ensures.front, c.split_at.ensures.back)
+    (first_word text _ _ _ _ _ start c.in_ok-start.was (between_to_end text c.in_ok-start.start (length text) (omega arith)) end (search rules))

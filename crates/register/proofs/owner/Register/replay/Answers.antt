@@ -1,32 +1,19 @@
-use Rattle.std.proofs.Common.{◌+◌, ◌&&◌, map, drop, sym, refl, ap, ◌∙◌, ap₂}
-use Rattle.register.specs.Registers.{applied, replayed}
-use Rattle.register.specs.Held.{register_of, record_of, can_do_all}
-use Rattle.register.proofs.Left.{can_left, replay_left, can_none, replay_none}
+use Rattle.std.proofs.Common.{ap, ◌∙◌, arith, rules}
+use Rattle.std.proofs.lemmas.Result.{err_from_is_err_and}
+use Rattle.change.specs.declared.kinds.Refusal.TheVariants.{OutOfRange}
+use Rattle.change.specs.Heads.{number_of}
+use Rattle.register.proofs.Left.{Left-more, Left-all, refused, was_done, was_refused, turned_into}
 use Rattle.register.proofs.owner.Register.replay.Goals as goal
 
-pub returns-in_default : goal.returns-in_default
-returns-in_default c =
-    let (cannot, same) = c.in_default.ensures in
-    let left = can_left c.args.records.now c.loop-what.what-index c.what-item.result (register_of c.loop-what.self) c.loop-what-test.true c.what-item.is in
-    let rest = can_do_all (map record_of (drop (c.loop-what.what-index + 1) c.args.records.now)) (applied (record_of c.what-item.result) (register_of c.loop-what.self)) in
-    (c.loop-what.invariant.0 ∙ left ∙ ap (λ b. b && rest) cannot, refl)
+pub returns-in_err-map_err : goal.returns-in_err-map_err
+returns-in_err-map_err c =
+    let (e, is, same) = err_from_is_err_and c.from_residual.result c.from_residual.ensures.1 in
+    let cannot = was_refused c.apply.result _ _ _ (grind arith) c.apply.ensures in
+    let out = turned_into c.apply.result c.map_err.result _ OutOfRange (λ e d k. search rules) c.map_err.ensures.cases _ c.in_err-map_err.was in
+    rw is (refused _ _ _ _ c.loop-what.invariant c.what-item.result c.loop-what-test.true c.what-item.is cannot, ap number_of (same ∙ out))
 
 pub loop-what-preserved : goal.loop-what-preserved
-loop-what-preserved c =
-    let xs = c.args.records.now in
-    let n = c.loop-what.what-index in
-    let (can, did) = c.in-Ok.ensures in
-    let R = register_of c.loop-what.self in
-    let left = can_left xs n c.what-item.result R c.loop-what-test.true c.what-item.is in
-    let again = replay_left xs n c.what-item.result R c.loop-what-test.true c.what-item.is in (
-      c.loop-what.invariant.0 ∙ left ∙ ap₂ (λ b S. b && can_do_all (map record_of (drop (n + 1) xs)) S) can (sym did),
-      c.loop-what.invariant.1 ∙ again ∙ ap (λ S. replayed (map record_of (drop (n + 1) xs)) S) (sym did),
-    )
+loop-what-preserved c = Left-more _ _ _ _ c.loop-what.invariant c.what-item.result c.loop-what-test.true c.what-item.is _ (was_done c.apply.result _ _ _ (grind arith) c.apply.ensures)
 
 pub returns : goal.returns
-returns c =
-    let xs = c.args.records.now in
-    let R = register_of c.loop-what.self in (
-      c.loop-what.invariant.0 ∙ can_none xs c.loop-what.what-index R c.loop-what-test.false,
-      sym (c.loop-what.invariant.1 ∙ replay_none xs c.loop-what.what-index R c.loop-what-test.false),
-    )
+returns c = Left-all _ _ _ _ c.loop-what.invariant c.loop-what-test.false

@@ -1,41 +1,24 @@
-use Rattle.std.proofs.Common.{ℕ, List, get_or, Option, sym, ap, ◌∙◌, rules}
-use Rattle.table.specs.declared.row.Row.{Row}
-use Rattle.table.specs.declared.owners.Entries.{Entries}
+use Rattle.std.proofs.Common.{sym, ap, ◌∙◌, arith, rules}
 use Rattle.table.specs.Held.{row_of}
 use Rattle.table.specs.Update.{update}
-use Rattle.stage.specs.Stages.{ranks, written, entry_after}
-use Rattle.register.specs.declared.owner.Register.{Register}
-use Rattle.register.specs.Registers.{cell_of}
-use Rattle.register.specs.Held.{register_of, entry_in, head_in}
-use Rattle.register.proofs.Parts.{still_long, came_back, all_wrote}
+use Rattle.stage.specs.Stages.{written}
+use Rattle.register.proofs.Follows.{GoneOver-more, one_followed, all_written}
 use Rattle.register.proofs.owner.Register.write.Goals as goal
 
--- what a writer who knows these stages does to the entries, where the key's row was old
-abbrev after : Register → (key : ℕ) → (new : Option Row) → (stages : List ℕ) → (old : Option Row) → List Entries → ℕ → ℕ → Option ℕ
-after s k n ss o es i = update k (entry_after (get_or ss i 0) (cell_of (head_in s.heads i) o) (cell_of (head_in s.heads i) n) (entry_in es i k)) (entry_in es i)
-
-pub invariant_of-self : goal.invariant_of-self
-invariant_of-self c = let s = c.args.self.now in record { entries_long = still_long s _ _ c.follow_all.auto.entries c.as_mut_slice.ensures.value; heads_long = s.heads_long }
-
-pub invariant_of-self-in-Take : goal.invariant_of-self-in-Take
-invariant_of-self-in-Take c = let s = c.args.self.now in record { entries_long = still_long s _ _ c.follow_all.auto.entries c.as_mut_slice.ensures.value; heads_long = s.heads_long }
+pub loop-i-preserved : goal.loop-i-preserved
+loop-i-preserved c =
+    let g = c.loop-i.invariant in
+    let new = one_followed c.args.self.now c.args.key.number (written c.args.write) c.args.stages.now _ _ _ c.place-item.result g c.loop-i-test.true (search rules) in
+    GoneOver-more _ _ _ _ g c.place-item.result c.follow.new.self c.loop-i-test.true c.follow.ensures.head (λ j. c.follow.ensures.entries j ∙ new j)
 
 pub returns-in-Put : goal.returns-in-Put
 returns-in-Put c =
     let s = c.args.self.now in
-    let k = c.args.key.number in
-    let ss = ranks c.args.stages.now in
-    let n = written c.args.write in
-    all_wrote (register_of s) k n ss (row_of c.put.new.self) _
-    (λ j. c.put.ensures j ∙ ap (λ w. update k (written w) (row_of s.rows) j) (sym c.in-Put.is))
-    (came_back s _ _ c.follow_all.auto.entries c.as_mut_slice.ensures.value (after s k n ss) _ _ (search rules) c.follow_all.ensures)
+    all_written s c.args.key.number (written c.args.write) c.args.stages.now c.loop-i.place-items c.loop-i.i (row_of c.put.new.self) c.told-stages c.loop-i.invariant (omega arith)
+    (λ j. c.put.ensures j ∙ ap (λ w. update c.args.key.number (written w) (row_of s.rows) j) (sym c.in-Put.is))
 
 pub returns-in-Take : goal.returns-in-Take
 returns-in-Take c =
     let s = c.args.self.now in
-    let k = c.args.key.number in
-    let ss = ranks c.args.stages.now in
-    let n = written c.args.write in
-    all_wrote (register_of s) k n ss (row_of c.take.new.self) _
-    (λ j. c.take.ensures j ∙ ap (λ w. update k (written w) (row_of s.rows) j) (sym c.in-Take.is))
-    (came_back s _ _ c.follow_all.auto.entries c.as_mut_slice.ensures.value (after s k n ss) _ _ (search rules) c.follow_all.ensures)
+    all_written s c.args.key.number (written c.args.write) c.args.stages.now c.loop-i.place-items c.loop-i.i (row_of c.take.new.self) c.told-stages c.loop-i.invariant (omega arith)
+    (λ j. c.take.ensures j ∙ ap (λ w. update c.args.key.number (written w) (row_of s.rows) j) (sym c.in-Take.is))
