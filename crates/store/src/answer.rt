@@ -54,12 +54,8 @@ fn key_to_read(text: &str) -> Option<Key> {
     if words.next()? != b"read".as_slice() {
         return None;
     }
-    let number = words.number(4095)?;
-    if words.is_read() {
-        Key::new(number as u16)
-    } else {
-        None
-    }
+    let key = Key::new(words.number(4095)? as u16)?;
+    words.is_read().then_some(key)
 }
 
 /// The row that a text asks for.
