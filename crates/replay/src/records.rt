@@ -14,11 +14,14 @@ use register::Register;
 fn one_more(register: &mut Register, bytes: &[u8], at: usize) -> Result<Option<usize>, Refusal>
     ensures { OneMore result bytes.now at (register_of register.old) (register_of register.new) }
 {
-    let (what, end) = match journal::decode(bytes, at) {
-        Ok(read) => read,
-        Err(Unread::Part) => return Ok(None),
-        Err(Unread::Bad) => return Err(Refusal::OutOfRange),
+    let read = journal::decode(bytes, at);
+    if let Err(Unread::Part) = read {
+        return Ok(None);
+    }
+    let Ok(whole) = read else {
+        return Err(Refusal::OutOfRange);
     };
+    let (what, end) = whole;
     register.apply(what).map_err(|_| Refusal::OutOfRange)?;
     Ok(Some(end))
 }
