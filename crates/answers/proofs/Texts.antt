@@ -1,9 +1,10 @@
 -- Texts one after another.
-use Rattle.std.proofs.Common.{◌≡◌, ℕ, ◌+◌, ◌<◌, List, [], ◌∷◌, ◌++◌, length, get_or, take, drop, decimal, Option, Some, None, true, false, not, sym, refl, ap, ◌∙◌, append_assoc, append-nil, add-one}
+use Rattle.std.proofs.Common.{◌≡◌, ℕ, ◌+◌, ◌<◌, List, [], ◌∷◌, ◌++◌, length, get_or, take, drop, decimal, Option, Some, None, IfSome, Result, Ok, Err, is_ok, OnOk, subst, true, false, not, sym, refl, ap, ◌∙◌, append_assoc, append-nil, add-one}
 use Rattle.std.proofs.Math.Seq.{take-suc}
 use Rattle.std.proofs.Output.{then_text_assoc}
 use Rattle.std.proofs.lemmas.List.{drop_more}
-use Rattle.std.specs.Fmt.{◌++?◌}
+use Rattle.std.specs.Fmt.{◌++?◌, WritesText}
+use Rattle.std.specs.List.{FoldsTo, concat}
 use denote.Enum.Bare.{sameb}
 use Rattle.stage.specs.contracts.kinds.Stage.{the_type}
 use Rattle.stage.specs.declared.kinds.Stage.{Stage}
@@ -53,3 +54,24 @@ pub stage_list-drop : (all done : List ℕ) (ss : List Stage) (i : ℕ) (d : Sta
 stage_list-drop all done ss i d lt so_far =
     so_far ∙ ap (λ l. done ++ stage_list i (ranks l)) (drop_more ss i d lt)
     ∙ sym (append_assoc done (stage_word i (rank (get_or ss i d))) (stage_list (i + 1) (ranks (drop (i + 1) ss))))
+
+-- calls of `write_str` that each keep the name of a loan and append to its bytes do so together
+module _ {W N : Type 0} (name : W → N) (items : W → List ℕ) where
+  abbrev Takes : W → List ℕ → W → Type 0
+  Takes s bs t = (name t ≡ name s) × (items t ≡ items s ++ bs)
+
+  taken : (s : W) (parts : List (List ℕ)) (t : W) → FoldsTo Takes s parts t → Takes s (concat parts) t
+  taken s [] t p = (ap name (sym p), ap items (sym p) ∙ sym (append-nil (items s)))
+  taken s (x ∷ xs) t p =
+      let rest = taken p.0 xs t p.2 in
+      (rest.0 ∙ p.1.0, rest.1 ∙ ap (λ (l : List ℕ). l ++ concat xs) p.1.1 ∙ append_assoc (items s) x (concat xs))
+
+  -- the same of a text, where writing it succeeds
+  pub appended : {X Y E F : Type 0} (s t : W) (o : Option (List ℕ)) (r : Result X E) (q : Result Y F) (P : List ℕ → Type 0) → is_ok q ≡ is_ok r
+      → ((bs : List ℕ) → name t ≡ name s → items t ≡ items s ++ bs → P bs) → OnOk r (WritesText Takes s o t) → OnOk q (IfSome o P)
+  appended s t None r (Ok y) P same last p = tt
+  appended s t None r (Err e) P same last p = tt
+  appended s t (Some bs) (Ok x) (Ok y) P same last p =
+      let both = subst (λ l. Takes s l t) p.whole (taken s p.parts t p.calls) in last bs both.0 both.1
+  appended s t (Some bs) (Err d) (Ok y) P same last p = cc
+  appended s t (Some bs) r (Err e) P same last p = tt

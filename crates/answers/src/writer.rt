@@ -8,15 +8,27 @@ use super::text::{AnswerText, ClaimText, Spaced};
 use service::Answer;
 use stage::Stage;
 use std::alloc::AllocError;
-use std::fmt::Display;
-use std::io::Write;
+use std::fmt::{self, Display, Write};
+
+/// The bytes of an output, as a destination for text.
+// `write!` to the `Vec` itself goes by `io::Write`, whose loop for each piece of text costs more.
+#[derive(Drop)]
+struct Appender<'a>(&'a mut Vec<u8>);
+
+impl Write for Appender<'_> {
+    ghost write_str_gives = { λ s bs t. (t.0.ghost_name ≡ s.0.ghost_name) × (t.0.now.items ≡ s.0.now.items ++ bs) };
+
+    fn write_str(&mut self, text: &str) -> fmt::Result {
+        Ok(self.0.extend_from_slice(text.as_bytes())?)
+    }
+}
 
 /// Appends the text of a value.
 fn put<D: Display + Drop>(out: &mut Vec<u8>, value: D) -> Result<(), AllocError>
     ensures { OnOk result (IfSome (D.output value) (λ text. out.new.items ≡ out.old.items ++ text)) }
 {
     // Writing to a `Vec` fails only where memory runs out.
-    write!(out, "{value}").map_err(|_| AllocError)
+    write!(Appender(out), "{value}").map_err(|_| AllocError)
 }
 
 /// Appends a number in decimal digits.

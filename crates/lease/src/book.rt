@@ -9,7 +9,6 @@ ghost use Rattle.lease.specs.Books.{lease_of, book_of, newest_of};
 use super::lease::Lease;
 use stage::{INDEXES, Slot, Stage};
 use std::alloc::{AllocError, Global};
-use std::iter;
 
 /// The leases that the store has noted since it came up, the newest first.
 #[derive(Drop)]
@@ -35,9 +34,11 @@ impl Book {
         let others = self
             .leases
             .iter()
-            .copied()
             .filter(|old| old.stays_beside(long, &lease));
-        self.leases = iter::once(lease).chain(others).collect(heap)?;
+        let mut leases = Vec::new(heap);
+        leases.push(lease)?;
+        leases.extend(others)?;
+        self.leases = leases;
         Ok(())
     }
 

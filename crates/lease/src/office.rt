@@ -5,7 +5,6 @@ ghost use Rattle.lease.specs.Desks.{desk_of, fresh, asks, acts_on, told, until, 
 
 use stage::{INDEXES, Stage};
 use std::alloc::{AllocError, Global};
-use std::iter;
 
 /// A lease that an office was told: the epoch, the stages of all indexes, and what its own clock showed when it asked.
 #[derive(Clone, Copy, Debug, PartialEq, Eq)]
@@ -73,9 +72,11 @@ impl Desk {
         let others = self
             .grants
             .iter()
-            .copied()
             .filter(|old| old.is_acted_on(self.short, asked));
-        self.grants = iter::once(new).chain(others).collect(heap)?;
+        let mut grants = Vec::new(heap);
+        grants.push(new)?;
+        grants.extend(others)?;
+        self.grants = grants;
         self.asked = None;
         Ok(Some(asked.saturating_add(self.short)))
     }

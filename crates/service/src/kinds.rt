@@ -1,5 +1,7 @@
 //! Calls and answers.
 
+ghost use Rattle.std.specs.Prelude.{◌≡◌, length};
+
 use change::Refusal;
 use keyset::Key;
 use stage::{INDEXES, Slot, Stage};
@@ -10,6 +12,7 @@ use table::Column;
 pub struct Claim {
     pub epoch: u64,
     pub stages: [Stage; INDEXES],
+    ghost stages_long: { length stages ≡ 8 },
 }
 
 /// A call. Those of an office begin with the office's number.

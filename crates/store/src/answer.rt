@@ -74,9 +74,9 @@ fn text_of(line: &[u8]) -> Result<&str, Refusal> {
 
 /// The answer to a line, given without its end; none where the line is skipped.
 pub fn to_line(rows: &Rows, line: &[u8]) -> Option<Answer> {
-    match text_of(line) {
-        Ok(text) if text.is_empty() || text.starts_with('#') => None,
-        Ok(text) => Some(Answer(row_for(rows, text))),
-        Err(refusal) => Some(Answer(Err(refusal))),
+    let text = text_of(line);
+    if text.is_ok_and(|text| text.is_empty() || text.starts_with('#')) {
+        return None;
     }
+    Some(Answer(text.and_then(|text| row_for(rows, text))))
 }

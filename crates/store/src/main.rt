@@ -3,7 +3,9 @@
 #![tactic(auto)]
 
 use anyhow::anyhow;
+use std::alloc::AllocError;
 use std::env;
+use std::fmt::Write as _;
 use std::fs::File;
 use std::io::{BufRead, BufReader, Write};
 use table::Rows;
@@ -53,10 +55,21 @@ fn unknown(option: &str) -> anyhow::Error {
 /// Answers each line of the input, in order.
 fn serve(rt: &HostRuntime, rows: &Rows) -> anyhow::Result<()> {
     let heap = rt.alloc();
+    let mut input = BufReader::new(heap, rt.stdin())?;
     let mut out = rt.stdout();
-    for line in BufReader::new(heap, rt.stdin())?.split(heap, b'\n') {
-        if let Some(answer) = answer::to_line(rows, line?.as_slice()) {
-            let text = format!(in heap; "{answer}\n")?;
+    // Both are used again for each line: `split` would make a new one for each.
+    let mut line = Vec::new(heap);
+    let mut text = String::new(heap);
+    for _ in 0..u64::MAX {
+        line.clear();
+        if input.read_until(b'\n', &mut line)? == 0 {
+            break;
+        }
+        let content = line.strip_suffix(b"\n").unwrap_or(line.as_slice());
+        if let Some(answer) = answer::to_line(rows, content) {
+            text.clear();
+            // Writing to a `String` fails only where memory runs out.
+            write!(text, "{answer}\n").map_err(|_| AllocError)?;
             out.write_all(text.as_bytes())?;
         }
     }
