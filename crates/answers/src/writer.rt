@@ -16,6 +16,7 @@ use std::fmt::{self, Display, Write};
 struct Appender<'a>(&'a mut Vec<u8>);
 
 impl Write for Appender<'_> {
+    // the loan is the same, and the text stands behind what was there
     ghost write_str_gives = { λ s bs t. (t.0.ghost_name ≡ s.0.ghost_name) × (t.0.now.items ≡ s.0.now.items ++ bs) };
 
     fn write_str(&mut self, text: &str) -> fmt::Result {
